@@ -1,0 +1,5 @@
+pub mod Lists
+pub mod Bools
+pub mod Alls
+pub mod Sums
+pub mod Buffers

@@ -1,0 +1,1 @@
+// Lemmas on lists, tests and buffers; no code.

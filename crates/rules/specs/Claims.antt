@@ -1,0 +1,260 @@
+-- What the rules promise, as types that quote the demands; proofs/ has a proof of each.
+use Prim.Native.Nat.{ℕ, suc, _+_, _-_, _*_, _<_, _≤_}
+use mathlib.Core.Path.{_≡_}
+use mathlib.Core.Bool.{Bool, true, false, cond}
+use mathlib.Core.List.{List, [], _∷_, _++_}
+use mathlib.Core.Logic.{_≢_}
+use mathlib.Core.Option.{Option, none, some}
+use lib.Dec.{eqb}
+use lib.ListN.{length, getD, take, drop, replicate}
+use Rattle.rules.specs.Picture.{Off, NotOk, Ok, nodesIn, Row, Pair, Picture, holds, pairsIn, keeps, bars, rowAt, openAt, fresh}
+use Rattle.rules.specs.Event.{Event, START, NCE, SHUTDOWN, ANSWER, NONE, DELAY, decode, encodeEvent, goodNodes, badBlock}
+use Rattle.rules.specs.House.{minNumber, maxNumber, maxPairs, maxPass}
+use Rattle.rules.specs.Order.{encodeAll, Order, ASK, SET, OK, NOTOK, NEW, INVALID, WAIT-SHORT, WAIT-LONG, encode}
+use Rattle.rules.specs.Run.{Outcome, refused, taken, Record, offered, next, after, history, Sent, sentBy, written, lent, resultOf}
+use Rattle.rules.specs.Telegram.{uncounted, countNumber, countValue, uncut, cutNumber, cutBytes, cutLength, unjoined, joinNumber, joinMsgId, joinLength}
+use Rattle.rules.specs.Telegram.{telegramOf, telegrams, countOf, count, countIs, cut, cutTo, Joining, idle, stillOpen, complete, joinAll}
+use Rattle.laws.specs.Lists.{any, collect}
+use Rattle.laws.specs.Alls.{All}
+use Rattle.rules.specs.Listing.{listing, listedPositions, found, notFound, lookupNumber, lookupPosition, lookupAddress}
+
+-- the event that a record is taken as; none where it is refused
+unfoldable pub ifTaken : Outcome → Option Event → Option Event
+ifTaken (refused n) e = none
+ifTaken (taken q os) e = e
+
+unfoldable pub accepted : Picture → Record → Option Event
+accepted p r = ifTaken (offered p r) (decode (r .bytes))
+
+-- an answer or a silence
+unfoldable pub isReply : Event → Bool
+isReply (START n) = false
+isReply (NCE n) = false
+isReply SHUTDOWN = false
+isReply (ANSWER c x a ps) = true
+isReply (NONE c x) = true
+isReply (DELAY c) = false
+
+unfoldable pub countReply : Option Event → ℕ
+countReply none = 0
+countReply (some e) = cond (isReply e) 1 0
+
+-- how many answers and silences of a list are taken
+unfoldable pub repliesIn : Picture → List Record → ℕ
+repliesIn p [] = 0
+repliesIn p (r ∷ rs) = countReply (accepted p r) + repliesIn (next p r) rs
+
+-- "An open question is of the pass that its last ASK or SET carried": the pass of the last of these orders for position x, if there is one
+unfoldable pub isFor : ℕ → Order → Bool
+isFor x (ASK y) = eqb x y
+isFor x (SET y a b o n) = eqb x y
+isFor x OK = false
+isFor x NOTOK = false
+isFor x (NEW ps) = false
+isFor x (INVALID ps) = false
+isFor x WAIT-SHORT = false
+isFor x WAIT-LONG = false
+
+unfoldable pub later : Option ℕ → Option ℕ → Option ℕ
+later none m = m
+later (some n) m = some n
+
+unfoldable pub questionPass : List Sent → ℕ → Option ℕ
+questionPass [] x = none
+questionPass (s ∷ ss) x = later (questionPass ss x) (cond (isFor x (s .order)) (some (s .pass)) none)
+
+-- a list of records from a fresh picture for L: the picture, and the orders given out, after the first k of them
+unfoldable pub pictureAt : ℕ → List Record → ℕ → Picture
+pictureAt l rs k = after (fresh l) (take k rs)
+
+unfoldable pub sentAt : ℕ → List Record → ℕ → List Sent
+sentAt l rs k = history (fresh l) (take k rs)
+
+unfoldable pub recordAt : List Record → ℕ → Record
+recordAt rs k = getD rs k (record { bytes = []; room = 0 })
+
+-- the answers and silences taken among the records from number i on that come before number m
+unfoldable pub repliesBetween : ℕ → List Record → (i m : ℕ) → ℕ
+repliesBetween l rs i m = repliesIn (pictureAt l rs i) (take (m - i) (drop i rs))
+
+-- "no two listed positions share an address, and no two listed entries share block and instance number"
+unfoldable pub addressAt : Picture → ℕ → ℕ
+addressAt p i = getD (listedPositions p) i (record { position = 0; address = 0 }) .address
+
+unfoldable pub pairAt : Picture → ℕ → Pair
+pairAt p i = getD (listing p) i (record { position = 0; address = 0; pair = record { block = 0; number = 0 } }) .pair
+
+pub record Distinct (p : Picture) : Type 0 where
+  pub addresses : (i j : ℕ) → i < j → j < length (listedPositions p) → addressAt p i ≢ addressAt p j
+  pub pairs : (i j : ℕ) → i < j → j < length (listing p) → pairAt p i ≢ pairAt p j
+
+-- the bytes of an event: eight, each below 256, and they decode to it
+pub record Exists8 (e : Event) : Type 0 where
+  pub decodes : decode (encodeEvent e) ≡ some e
+  pub eight : length (encodeEvent e) ≡ 8
+  pub bytes : All (λ (b : ℕ). b < 256) (encodeEvent e)
+
+-- "some question of the current pass is open, and a well-formed silence for any open one, with 512 bytes of order room, is taken":
+-- every open question is of the current pass, and such a silence exists as 8 bytes
+pub record Awaits (p : Picture) (sent : List Sent) : Type 0 where
+  pub notOk : p .state ≡ NotOk
+  pub someOpen : (x : ℕ) × (openAt p x ≡ true)
+  pub current : (x : ℕ) → openAt p x ≡ true → questionPass sent x ≡ some (p .pass)
+  pub silence : (x : ℕ) → openAt p x ≡ true → (r : Record) → decode (r .bytes) ≡ some (NONE (p .pass) x) → 512 ≤ r .room
+      → accepted p r ≡ some (NONE (p .pass) x)
+  pub writable : (x : ℕ) → openAt p x ≡ true → Exists8 (NONE (p .pass) x)
+
+-- "any accepted START or NCE in the list, naming N positions (1 to 64)"
+abbrev pub Names : Option Event → ℕ → Type 0
+Names none n = ⊥
+Names (some (START m)) n = m ≡ n
+Names (some (NCE m)) n = m ≡ n
+Names (some SHUTDOWN) n = ⊥
+Names (some (ANSWER c x a ps)) n = ⊥
+Names (some (NONE c x)) n = ⊥
+Names (some (DELAY c)) n = ⊥
+
+-- "let only answers and silences be taken, each for a position whose question is open; refused records of any sort may stand between"
+abbrev pub Allowed : Picture → Option Event → Type 0
+Allowed p none = Unit {0}
+Allowed p (some (START m)) = ⊥
+Allowed p (some (NCE m)) = ⊥
+Allowed p (some SHUTDOWN) = ⊥
+Allowed p (some (ANSWER c x a ps)) = openAt p x ≡ true
+Allowed p (some (NONE c x)) = openAt p x ≡ true
+Allowed p (some (DELAY c)) = ⊥
+
+-- "at most 49 × (N−1) × (2N−1)"
+unfoldable pub bound : ℕ → ℕ
+bound n = 49 * (n - 1) * (2 * n - 1)
+
+-- "OK comes after at most 49 × (N−1) × (2N−1) of them, unless the list holds fewer. From it until then, after each record", the ring
+-- awaits an answer or a silence. The START or NCE is the record in front of place i; the list is looked at up to place e, its end or
+-- an earlier one.
+pub data Reaches (l : ℕ) (rs : List Record) (i e n : ℕ) : Type 0 where
+  arrives : (m : ℕ) → i ≤ m → m ≤ e → pictureAt l rs m .state ≡ Ok → repliesBetween l rs i m ≤ bound n
+      → ((j : ℕ) → i ≤ j → j < m → Awaits (pictureAt l rs j) (sentAt l rs j)) → Reaches l rs i e n
+  holdsFewer : repliesBetween l rs i e < bound n → ((j : ℕ) → i ≤ j → j ≤ e → Awaits (pictureAt l rs j) (sentAt l rs j))
+      → Reaches l rs i e n
+
+-- Demand 3, of a whole list of records and any L. "After it let only answers and silences be taken" is asked of the records up to
+-- place e, so that whatever comes later takes nothing from any START or NCE of the list; e may be the list's end.
+pub record Demand3 (l : ℕ) (rs : List Record) : Type 0 where
+  pub distinct : (k : ℕ) → k ≤ length rs → Distinct (pictureAt l rs k)
+  pub reaches : (i e n : ℕ) → i < e → e ≤ length rs → Names (accepted (pictureAt l rs i) (recordAt rs i)) n
+      → ((j : ℕ) → i < j → j < e → Allowed (pictureAt l rs j) (accepted (pictureAt l rs j) (recordAt rs j)))
+      → (1 ≤ n) × (n ≤ 64) × Reaches l rs (suc i) e n
+
+-- "It can be had in every state and is empty in OFF."
+pub record EmptyInOff (l : ℕ) (rs : List Record) : Type 0 where
+  pub empty : (k : ℕ) → k ≤ length rs → pictureAt l rs k .state ≡ Off → listing (pictureAt l rs k) ≡ []
+
+-- The events that have bytes: every field that takes several bytes in its range, and no more pairs than the count allows. Decoding the bytes of such an event gives the event.
+abbrev pub Writable : Event → Type 0
+Writable (START n) = goodNodes n ≡ true
+Writable (NCE n) = goodNodes n ≡ true
+Writable SHUTDOWN = Unit {0}
+Writable (ANSWER c x a ps) = (c ≤ maxPass) × (a < 65_536) × (length ps ≤ maxPairs) × (any badBlock ps ≡ false)
+Writable (NONE c x) = c ≤ maxPass
+Writable (DELAY c) = c ≤ maxPass
+
+pub record Decodes (e : Event) : Type 0 where
+  pub decodes : Writable e → decode (encodeEvent e) ≡ some e
+
+-- After every record of every list: "pass would exceed 4,294,967,295" never happens, and the sizes are the paper's.
+pub record Bounds (l : ℕ) (rs : List Record) : Type 0 where
+  pub pass : (k : ℕ) → k ≤ length rs → pictureAt l rs k .pass ≤ 4_294_967_295
+  pub rows : (k : ℕ) → k ≤ length rs → length (pictureAt l rs k .rows) ≤ 63
+  pub pairs : (k x : ℕ) → k ≤ length rs → length (pairsIn (rowAt (pictureAt l rs k .rows) x)) ≤ 16
+  pub entries : (k : ℕ) → k ≤ length rs → length (listing (pictureAt l rs k)) ≤ 1_008
+
+-- No record of any list writes more than 511 bytes of orders, so that 512 bytes of order room do: they stand at the start of the lent
+-- buffer. "Lent bytes beyond what was written never change."
+pub record Fits (l : ℕ) (rs : List Record) : Type 0 where
+  pub fits : (k : ℕ) → k < length rs → length (written (offered (pictureAt l rs k) (recordAt rs k))) ≤ 511
+  pub beyond : (k : ℕ) → k < length rs → (buffer : List ℕ) → 512 ≤ length buffer
+      → lent buffer (offered (pictureAt l rs k) (recordAt rs k))
+      ≡ written (offered (pictureAt l rs k) (recordAt rs k)) ++ drop (length (written (offered (pictureAt l rs k) (recordAt rs k)))) buffer
+
+-- Demand 1: "A refusal leaves the ring picture and every lent byte as they stood."
+pub record Refusal (p : Picture) (r : Record) : Type 0 where
+  pub unchanged : (n : ℕ) → offered p r ≡ refused n
+      → (next p r ≡ p) × (sentBy (offered p r) ≡ []) × ((buffer : List ℕ) → lent buffer (offered p r) ≡ buffer)
+
+-- "Orders carry the pass after the event."
+pub record Carried (p : Picture) (r : Record) : Type 0 where
+  pub pass : All (λ (s : Sent). s .pass ≡ next p r .pass) (sentBy (offered p r))
+  pub bytes : written (offered p r) ≡ collect (λ (s : Sent). encode (s .pass) (s .order)) (sentBy (offered p r))
+
+-- A SET answers the announcement at hand: it goes to the position and the address that announced in this record and this pass, names
+-- one of the announced pairs, and offers a number from 01 to FE that stands nowhere in the announcement and that no row keeps.
+pub record SetAimed (e : Option Event) (q : Picture) (position address block old new : ℕ) : Type 0 where
+  pub announced : List Pair
+  pub answers : e ≡ some (ANSWER (q .pass) position address announced)
+  pub kept : keeps address (rowAt (q .rows) position) ≡ true
+  pub named : holds announced (record { block = block; number = old }) ≡ true
+  pub low : minNumber ≤ new
+  pub high : new ≤ maxNumber
+  pub unannounced : holds announced (record { block = block; number = new }) ≡ false
+  pub unlisted : (x : ℕ) → holds (pairsIn (rowAt (q .rows) x)) (record { block = block; number = new }) ≡ false
+
+abbrev pub Aimed : Option Event → Picture → Order → Type 0
+Aimed e q (ASK x) = Unit {0}
+Aimed e q (SET x a b o n) = SetAimed e q x a b o n
+Aimed e q OK = Unit {0}
+Aimed e q NOTOK = Unit {0}
+Aimed e q (NEW ps) = Unit {0}
+Aimed e q (INVALID ps) = Unit {0}
+Aimed e q WAIT-SHORT = Unit {0}
+Aimed e q WAIT-LONG = Unit {0}
+
+pub record SetsAimed (p : Picture) (r : Record) : Type 0 where
+  pub aimed : All (λ (s : Sent). Aimed (accepted p r) (next p r) (s .order)) (sentBy (offered p r))
+
+-- After every record of every list no listed position has an address that an IGNORED row bars: of two units with one address neither
+-- stays listed once one of them is IGNORED for it.
+pub record Unbarred (l : ℕ) (rs : List Record) : Type 0 where
+  pub unbarred : (k x y a : ℕ) → k ≤ length rs → bars a (rowAt (pictureAt l rs k .rows) x) ≡ true → keeps a (rowAt (pictureAt l rs k .rows) y) ≡ false
+
+-- Demand 2: "A message of up to 65,535 bytes, cut and then joined, comes back the same": open until the last telegram, then the MsgID, the
+-- length and the payload at the buffer's start, from any join state and with any bytes behind it
+pub record RoundTrip (size msgId : ℕ) (payload : List ℕ) (s : Joining) (lent : List ℕ) : Type 0 where
+  pub answers : joinAll size s lent (telegrams size msgId payload) .answers
+      ≡ replicate (countOf size (length payload) - 1) stillOpen ++ complete msgId (length payload) ∷ []
+  pub state : joinAll size s lent (telegrams size msgId payload) .state ≡ idle
+  pub buffer : joinAll size s lent (telegrams size msgId payload) .buffer ≡ payload ++ drop (length payload) lent
+
+-- the telegrams 1 to the count are what cutting gives, wherever the lent room holds them
+pub record Cuts (size msgId : ℕ) (payload : List ℕ) : Type 0 where
+  pub counted : count size payload ≡ countIs (countOf size (length payload))
+  pub cuts : (k room : ℕ) → 1 ≤ k → k ≤ countOf size (length payload) → length (telegramOf size msgId payload k) ≤ room
+      → cut size msgId payload k room ≡ cutTo (telegramOf size msgId payload k)
+
+-- "Payload up to L: one telegram, TelID 0. More: .. each a counter byte .. and L−1 payload bytes, the last 1 to L−1."
+pub record Lengths (size msgId : ℕ) (payload : List ℕ) : Type 0 where
+  pub one : length payload ≤ size
+      → (countOf size (length payload) ≡ 1) × (length (telegramOf size msgId payload 1) ≡ 6 + length payload)
+  pub several : size < length payload → (k : ℕ) → 1 ≤ k → k < countOf size (length payload)
+      → length (telegramOf size msgId payload k) ≡ 6 + size
+  pub last : size < length payload
+      → (length (telegramOf size msgId payload (countOf size (length payload))) ≡ 7 + (length payload - (countOf size (length payload) - 1) * (size - 1)))
+      × (1 ≤ length payload - (countOf size (length payload) - 1) * (size - 1))
+      × (length payload - (countOf size (length payload) - 1) * (size - 1) ≤ size - 1)
+
+-- "Beside its number a refusal gives 0 for each length, position and address"; what is given gives number 0 and its own values. N is 0
+-- in OFF.
+pub record Values : Type 0 where
+  pub refusedRecord : (n : ℕ) → resultOf (refused n) ≡ record { number = n; length = 0; bytes = [] }
+  pub takenRecord : (q : Picture) (os : List Order) → (resultOf (taken q os) .number ≡ 0) × (resultOf (taken q os) .length ≡ length (encodeAll (q .pass) os))
+  pub notFoundEntry : (n : ℕ) → (lookupNumber (notFound n) ≡ n) × (lookupPosition (notFound n) ≡ 0) × (lookupAddress (notFound n) ≡ 0)
+  pub foundEntry : (x a : ℕ) → (lookupNumber (found x a) ≡ 0) × (lookupPosition (found x a) ≡ x) × (lookupAddress (found x a) ≡ a)
+  pub notCounted : (n : ℕ) → (countNumber (uncounted n) ≡ n) × (countValue (uncounted n) ≡ 0)
+  pub counted : (k : ℕ) → (countNumber (countIs k) ≡ 0) × (countValue (countIs k) ≡ k)
+  pub notCut : (n : ℕ) → (cutNumber (uncut n) ≡ n) × (cutLength (uncut n) ≡ 0) × (cutBytes (uncut n) ≡ [])
+  pub cutTelegram : (t : List ℕ) → (cutNumber (cutTo t) ≡ 0) × (cutLength (cutTo t) ≡ length t) × (cutBytes (cutTo t) ≡ t)
+  pub notJoined : (n : ℕ) → (joinNumber (unjoined n) ≡ n) × (joinMsgId (unjoined n) ≡ 0) × (joinLength (unjoined n) ≡ 0)
+  pub notYetJoined : (joinNumber stillOpen ≡ 0) × (joinMsgId stillOpen ≡ 0) × (joinLength stillOpen ≡ 0)
+  pub joinedMessage : (m n : ℕ) → (joinNumber (complete m n) ≡ 0) × (joinMsgId (complete m n) ≡ m) × (joinLength (complete m n) ≡ n)
+  pub nodesOff : (rows : List Row) → nodesIn Off rows ≡ 0
+  pub nodesNotOk : (rows : List Row) → nodesIn NotOk rows ≡ suc (length rows)
+  pub nodesOk : (rows : List Row) → nodesIn Ok rows ≡ suc (length rows)

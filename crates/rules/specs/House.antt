@@ -1,0 +1,55 @@
+-- The sizes and limits of paper 01, each by a name. Those marked (house) there are the network owner's to choose.
+use Prim.Native.Nat.{ℕ}
+
+-- "a payload size L of 12 to 45 (house)"
+abbrev pub minSize : ℕ
+minSize = 12
+
+abbrev pub maxSize : ℕ
+maxSize = 45
+
+-- "N is 1 to 64"
+abbrev pub maxNodes : ℕ
+maxNodes = 64
+
+-- "up to 16 pairs (FBlockID, InstID) (house)"
+abbrev pub maxPairs : ℕ
+maxPairs = 16
+
+-- "order room below 512 bytes" is refused
+abbrev pub minRoom : ℕ
+minRoom = 512
+
+-- "if a counted row now stands at 3 (house)"
+abbrev pub maxBad : ℕ
+maxBad = 3
+
+-- "a bad pair with tries below 3 (house)"
+abbrev pub maxTries : ℕ
+maxTries = 3
+
+-- "silence count +1, stopping at 20"
+abbrev pub maxSilences : ℕ
+maxSilences = 20
+
+-- "outside 0101 to 02FF (house)" an address is bad
+abbrev pub minAddress : ℕ
+minAddress = 0x0101
+
+abbrev pub maxAddress : ℕ
+maxAddress = 0x02FF
+
+-- "its number is 01 to FE"
+abbrev pub minNumber : ℕ
+minNumber = 0x01
+
+abbrev pub maxNumber : ℕ
+maxNumber = 0xFE
+
+-- "pass would exceed 4,294,967,295"
+abbrev pub maxPass : ℕ
+maxPass = 4_294_967_295
+
+-- "payload above 65,535", "join buffer below 65,535", "total above 65,535"
+abbrev pub maxPayload : ℕ
+maxPayload = 65_535

@@ -1,0 +1,17 @@
+pub mod House
+pub mod Picture
+pub mod Event
+pub mod Order
+pub mod Renumber
+pub mod Step
+pub mod Ending
+pub mod Run
+pub mod Listing
+pub mod Telegram
+pub mod Evaluate
+pub mod Claims
+pub mod Table
+pub mod Edges
+pub mod Cases
+pub mod Tight
+pub mod Promises

@@ -1,0 +1,13 @@
+-- The two tables hold, by computation.
+use mathlib.Core.Path.{_≡_, refl}
+use Rattle.rules.specs.Table.{hex, obtain, obtained, expected}
+use Rattle.rules.specs.Edges.{edges}
+use Rattle.rules.specs.Cases.{cases}
+
+pub edgesHold : obtained edges ≡ expected edges
+unfolding obtained expected edges obtain hex
+edgesHold = refl
+
+pub casesHold : obtained cases ≡ expected cases
+unfolding obtained expected cases obtain hex
+casesHold = refl

@@ -1,0 +1,21 @@
+-- The theorems over the rules.
+pub mod Ways
+pub mod Pairs
+pub mod Sound
+pub mod Decode
+pub mod Along
+pub mod Measure
+pub mod Questions
+pub mod Runs
+pub mod Distinct
+pub mod Demand3
+pub mod Sizes
+pub mod Off
+pub mod Records
+pub mod Values
+pub mod Aimed
+pub mod Barring
+pub mod RoundTrip
+pub mod Edges
+pub mod Tight
+pub mod Promises

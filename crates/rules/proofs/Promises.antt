@@ -1,0 +1,47 @@
+-- Everything that is promised of the rules is proved.
+use Prim.Native.Nat.{ℕ, _≤_}
+use mathlib.Core.Path.{_≡_}
+use mathlib.Core.Bool.{true}
+use native.Mathlib.Omega.{arith}
+use borrow.Author.Tests.{le-leb}
+use lib.Dec.{leb}
+use Rattle.laws.specs.Bools.{and-true}
+use Rattle.rules.specs.House.{minSize, maxSize}
+use Rattle.rules.specs.Picture.{legalSize}
+use Rattle.rules.specs.Promises.{Promises}
+use Rattle.rules.proofs.Demand3.{demand3}
+use Rattle.rules.proofs.Records.{bounds, fits, refusal, carried}
+use Rattle.rules.proofs.Aimed.{setsAimed}
+use Rattle.rules.proofs.Barring.{unbarred}
+use Rattle.rules.proofs.Off.{emptyInOff}
+use Rattle.rules.proofs.Decode.{decodes}
+use Rattle.rules.proofs.Values.{values}
+use Rattle.rules.proofs.RoundTrip.{roundTrip, cuts, lengths}
+use Rattle.rules.proofs.Edges.{edgesHold, casesHold}
+use Rattle.rules.proofs.Tight.{longestWay, largestEvent}
+
+legal : (size : ℕ) → 12 ≤ size → size ≤ 45 → legalSize size ≡ true
+unfolding legalSize
+legal size l h = and-true (leb minSize size) (leb size maxSize) (le-leb minSize size l) (le-leb size maxSize h)
+
+pub promises : Promises
+promises =
+    record {
+      demand3 = demand3;
+      bounds = bounds;
+      fits = fits;
+      unbarred = unbarred;
+      emptyInOff = emptyInOff;
+      refusal = refusal;
+      carried = carried;
+      setsAimed = setsAimed;
+      values = values;
+      decodes = decodes;
+      roundTrip = λ size msgId payload s lent l h m n b. roundTrip size msgId payload s lent (legal size l h) (omega arith) n b;
+      cuts = λ size msgId payload l h n. cuts size msgId payload (legal size l h) n;
+      lengths = λ size msgId payload l h. lengths size msgId payload (legal size l h);
+      edges = edgesHold;
+      cases = casesHold;
+      longestWay = longestWay;
+      largestEvent = largestEvent;
+    }

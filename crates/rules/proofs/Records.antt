@@ -1,0 +1,96 @@
+-- One record: the orders fit, a refusal changes nothing, orders carry the pass after the event.
+use Prim.Native.Nat.{ℕ, zero, suc, _*_, _≤_}
+use mathlib.Core.Path.{_≡_, refl, ap}
+use mathlib.Core.List.{List, [], _∷_, _++_, map}
+use native.Mathlib.Omega.{arith}
+use lib.ListN.{length, length-append, length-map}
+use Rattle.laws.specs.Buffers.{sets-start}
+use Rattle.rules.specs.House.{maxPairs}
+use Rattle.rules.specs.Listing.{entriesOf, entriesFrom, listing}
+use Rattle.laws.specs.Lists.{collect}
+use Rattle.laws.specs.Alls.{All, all-nil, all-cons, all-head, all-tail, all-everywhere}
+use Rattle.rules.specs.Picture.{Picture, Row, Kept, nothing, kept, keptBy, keptIn, pairsIn, noRow, rowAt}
+use Rattle.rules.specs.Order.{Order, encode, encodeAll}
+use Rattle.rules.specs.Run.{Outcome, refused, taken, Record, offered, left, Sent, sentWith, sentBy, written, lent}
+use Rattle.rules.specs.Claims.{pictureAt, recordAt, Fits, Bounds, Refusal, Carried}
+use Rattle.rules.proofs.Ways.{Offered, was-refused, was-taken, offered-cases}
+use Rattle.rules.proofs.Sound.{Sound, Proper, RowProper}
+use Rattle.rules.proofs.Decode.{formed}
+use Rattle.rules.proofs.Sizes.{encode-all-size, size-largest, row-few}
+use Rattle.rules.proofs.Demand3.{running-at}
+
+-- a sound picture writes at most 511 bytes
+pub record-fits : (p : Picture) (r : Record) → Sound p → length (written (offered p r)) ≤ 511
+unfolding written
+record-fits p r h = go (offered-cases p r)
+  where
+    go : {o : Outcome} → Offered p r o → length (written o) ≤ 511
+    go was-refused = omega arith
+    go (was-taken {c} e d m t q) = rw encode-all-size (size-largest p h e c q (formed (r .bytes) e d))
+
+pub fits : (l : ℕ) (rs : List Record) → Fits l rs
+unfolding lent
+fits l rs =
+    record {
+      fits = λ k h. at k;
+      beyond = λ k h buffer room. sets-start buffer (written (offered (pictureAt l rs k) (recordAt rs k))) (omega (arith, at k));
+    }
+  where
+    at : (k : ℕ) → length (written (offered (pictureAt l rs k) (recordAt rs k))) ≤ 511
+    at k = record-fits (pictureAt l rs k) (recordAt rs k) (running-at l rs k .sound)
+
+pub refusal : (p : Picture) (r : Record) → Refusal p r
+unfolding left written sentBy lent
+refusal p r = record { unchanged = λ n h. (ap (left p) h, ap sentBy h, λ buffer. ap (lent buffer) h) }
+
+-- the sizes of a running picture
+listing-size : (x : ℕ) (rows : List Row) → All RowProper rows → length (entriesFrom x rows) ≤ length rows * maxPairs
+unfolding entriesFrom entriesOf
+listing-size x [] h = omega arith
+listing-size x (r ∷ rows) h = let e = listing-size (suc x) rows (all-tail h) in let f = one (keptIn r) (all-head h) in rw length-append (omega arith)
+  where
+    one : (k : Kept) → Proper k → length (entriesOf x k) ≤ maxPairs
+    one nothing h = omega arith
+    one (kept a ps) h = rw length-map (h .1)
+
+no-row-proper : RowProper noRow
+unfolding noRow keptBy
+no-row-proper = tt
+
+row-pairs : (rows : List Row) (x : ℕ) → All RowProper rows → length (pairsIn (rowAt rows x)) ≤ maxPairs
+unfolding rowAt
+row-pairs rows zero h = row-few noRow no-row-proper
+row-pairs rows (suc i) h = row-few _ (all-everywhere {P = RowProper} i noRow no-row-proper h)
+
+pub bounds : (l : ℕ) (rs : List Record) → Bounds l rs
+unfolding listing
+bounds l rs =
+    record {
+      pass = λ k h. sound k .pass;
+      rows = λ k h. let f = sound k .rows .few in omega arith;
+      pairs = λ k x h. row-pairs (pictureAt l rs k .rows) x (sound k .rows .proper);
+      entries = λ k h. let f = sound k .rows .few in let e = listing-size 1 (pictureAt l rs k .rows) (sound k .rows .proper) in omega arith;
+    }
+  where
+    sound : (k : ℕ) → Sound (pictureAt l rs k)
+    sound k = running-at l rs k .sound
+
+pub carried : (p : Picture) (r : Record) → Carried p r
+unfolding left written sentBy sentWith encodeAll collect
+carried p r = record { pass = pass (offered p r); bytes = bytes (offered p r) }
+  where
+    all : (n : ℕ) (os : List Order) → All (λ (s : Sent). s .pass ≡ n) (map (sentWith n) os)
+    all n [] = all-nil
+    all n (o ∷ os) = all-cons refl (all n os)
+
+    pass : (o : Outcome) → All (λ (s : Sent). s .pass ≡ left p o .pass) (sentBy o)
+    pass (refused n) = all-nil
+    pass (taken q os) = all (q .pass) os
+
+    same : (n : ℕ) (os : List Order) → encodeAll n os ≡ collect (λ (s : Sent). encode (s .pass) (s .order)) (map (sentWith n) os)
+    same n [] = refl
+    same n (o ∷ os) = ap (λ (l : List ℕ). encode n o ++ l) (same n os)
+
+    bytes : (o : Outcome) → written o ≡ collect (λ (s : Sent). encode (s .pass) (s .order)) (sentBy o)
+    bytes (refused n) = refl
+    bytes (taken q os) = same (q .pass) os

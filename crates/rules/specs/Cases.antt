@@ -1,5 +1,5 @@
--- Every step, refusal and limit of paper 01 that the edges do not show, as a second table. The results were worked out by an
--- independent model of the paper.
+-- Steps, refusals and limits of paper 01 that the edges do not show, as a second table. An independent model of the paper gave the
+-- results, but for the row of silences, number 10 for L = 46 and for a cut: these were worked out by hand.
 use Prim.Native.Nat.{ℕ, zero, suc}
 use mathlib.Core.List.{List, [], _∷_, _++_}
 use lib.ListN.{replicate}

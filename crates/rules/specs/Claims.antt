@@ -149,7 +149,8 @@ pub record Demand3 (l : ℕ) (rs : List Record) : Type 0 where
 pub record EmptyInOff (l : ℕ) (rs : List Record) : Type 0 where
   pub empty : (k : ℕ) → k ≤ length rs → pictureAt l rs k .state ≡ Off → listing (pictureAt l rs k) ≡ []
 
--- The events that have bytes: every field that takes several bytes in its range, and no more pairs than the count allows. Decoding the bytes of such an event gives the event.
+-- The events that have bytes: every field that takes several bytes in its range, and no more pairs than the count allows. Decoding
+-- the bytes of such an event gives the event.
 abbrev pub Writable : Event → Type 0
 Writable (START n) = goodNodes n ≡ true
 Writable (NCE n) = goodNodes n ≡ true

@@ -3,3 +3,4 @@ pub mod Bools
 pub mod Alls
 pub mod Sums
 pub mod Buffers
+pub mod Bits

@@ -24,7 +24,7 @@ pub size-range : (size : ℕ) → legalSize size ≡ true → (minSize ≤ size)
 unfolding legalSize
 size-range size h = (leb-true minSize size (and-left _ _ h), leb-true size maxSize (and-right (leb minSize size) _ h))
 
-telegram-length : (msgId id : ℕ) (body : List ℕ) → length (telegram msgId id body) ≡ 6 + length body
+pub telegram-length : (msgId id : ℕ) (body : List ℕ) → length (telegram msgId id body) ≡ 6 + length body
 unfolding telegram headBytes four two
 telegram-length msgId id body = omega arith
 
@@ -153,11 +153,11 @@ module _ (size msgId : ℕ) (payload : List ℕ) where
   telegram-at j h = let e : suc j - 1 ≡ j = omega arith in cond-false _ _ (lt-leb (length payload) size h) ∙ rw e refl
 
 module _ (size msgId : ℕ) (payload : List ℕ) where
-  telegram-one : length payload ≤ size → telegramOf size msgId payload 1 ≡ telegram msgId 0 payload
+  pub telegram-one : length payload ≤ size → telegramOf size msgId payload 1 ≡ telegram msgId 0 payload
   unfolding telegramOf
   telegram-one h = cond-true _ _ (le-leb (length payload) size h)
 
-  count-one : length payload ≤ size → countOf size (length payload) ≡ 1
+  pub count-one : length payload ≤ size → countOf size (length payload) ≡ 1
   unfolding countOf
   count-one h = cond-true 1 _ (le-leb (length payload) size h)
 

@@ -1,0 +1,4 @@
+-- Laws that several functions' proofs use.
+pub mod Legal
+pub mod Cutting
+pub mod Joining

@@ -1,0 +1,18 @@
+use Prim.Native.Nat.{_/_}
+use native.Mathlib.Omega.{arith}
+use Rattle.laws.specs.Bits.{shift-or}
+use Rattle.transport.proofs.telegram.pack.Statement.{statement}
+use Rattle.transport.proofs.telegram.pack.Tie as tie
+use Rattle.transport.proofs.telegram.pack.Reads as reads
+use Rattle.transport.proofs.telegram.pack.Lts as lts
+
+-- src/telegram.rt:37:5
+cast-result : tie.Need-cast-result
+cast-result c = omega (arith, shift-or 32 4 (c .args .tel-id) (c .args .tel-len / 256) (omega arith) (omega arith))
+
+-- src/telegram.rt:33:1
+returns : tie.Need-returns
+returns c = shift-or 32 4 (c .args .tel-id) (c .args .tel-len / 256) (omega arith) (omega arith)
+
+pub pack-spec : {M : Type 1} → statement M
+pack-spec = tie.close (tie.spec cast-result returns)

@@ -1,0 +1,79 @@
+-- What the functions answer: their numbers and values, and what each answer of the rules is in code.
+use Prim.Native.Nat.{ℕ}
+use mathlib.Core.Path.{_≡_}
+use mathlib.Core.List.{List}
+use mathlib.Core.Bool.{cond}
+use lib.Dec.{eqb}
+use lib.ListN.{length}
+use lib.Seq.{sets}
+use Rattle.rules.specs.Telegram as rules
+use Rattle.transport.specs.declared.reassembly.Reassembly.{Reassembly}
+use Rattle.transport.specs.declared.reassembly.Joined.{Joined}
+use Rattle.transport.specs.declared.reassembly.JoinAnswer.{JoinAnswer}
+use Rattle.transport.specs.declared.reassembly.JoinAnswer.the-variants as joins
+use Rattle.transport.specs.declared.segmentation.CountAnswer.{CountAnswer}
+use Rattle.transport.specs.declared.segmentation.CountAnswer.the-variants as counts
+use Rattle.transport.specs.declared.segmentation.CutAnswer.{CutAnswer}
+use Rattle.transport.specs.declared.segmentation.CutAnswer.the-variants as cuts
+
+-- how many telegrams
+abbrev pub countNumberOf : CountAnswer → ℕ
+countNumberOf (counts.Refused n) = n
+countNumberOf (counts.Telegrams k) = 0
+
+abbrev pub countValueOf : CountAnswer → ℕ
+countValueOf (counts.Refused n) = 0
+countValueOf (counts.Telegrams k) = k
+
+abbrev pub countAnswer : rules.Count → CountAnswer
+countAnswer (rules.uncounted n) = counts.Refused n
+countAnswer (rules.countIs k) = counts.Telegrams k
+
+-- one telegram
+abbrev pub cutNumberOf : CutAnswer → ℕ
+cutNumberOf (cuts.Refused n) = n
+cutNumberOf (cuts.Length n) = 0
+
+abbrev pub cutLengthOf : CutAnswer → ℕ
+cutLengthOf (cuts.Refused n) = 0
+cutLengthOf (cuts.Length n) = n
+
+abbrev pub cutAnswer : rules.Cut → CutAnswer
+cutAnswer (rules.uncut n) = cuts.Refused n
+cutAnswer (rules.cutTo t) = cuts.Length (length t)
+
+-- What cutting does: the answer, and the lent buffer afterwards, which has the telegram at its start and is else as it was.
+pub record Cuts (c : rules.Cut) (before : List ℕ) (answer : CutAnswer) (after : List ℕ) : Type 0 where
+  pub answered : answer ≡ cutAnswer c
+  pub buffer : after ≡ sets before 0 (rules.cutBytes c)
+
+-- one telegram taken
+abbrev pub joinNumberOf : JoinAnswer → ℕ
+joinNumberOf (joins.Refused n) = n
+joinNumberOf joins.Open = 0
+joinNumberOf (joins.Complete m n) = 0
+
+abbrev pub joinMsgIdOf : JoinAnswer → ℕ
+joinMsgIdOf (joins.Refused n) = 0
+joinMsgIdOf joins.Open = 0
+joinMsgIdOf (joins.Complete m n) = m
+
+abbrev pub joinLengthOf : JoinAnswer → ℕ
+joinLengthOf (joins.Refused n) = 0
+joinLengthOf joins.Open = 0
+joinLengthOf (joins.Complete m n) = n
+
+abbrev pub joinAnswer : rules.Join → JoinAnswer
+joinAnswer (rules.unjoined n) = joins.Refused n
+joinAnswer rules.stillOpen = joins.Open
+joinAnswer (rules.complete m n) = joins.Complete m n
+
+-- the message that a state stands for, whatever its numbers are
+unfoldable pub joiningOf : Reassembly → rules.Joining
+joiningOf s = cond (eqb (s .open) 0) rules.idle (rules.opened (s .«msg_id») (s .counter) (s .length))
+
+-- What joining does: the answer, the next state, and the lent buffer afterwards.
+pub record Joins (j : rules.Joined) (r : Joined) (after : List ℕ) : Type 0 where
+  pub answered : r .answer ≡ joinAnswer (j .answer)
+  pub next : joiningOf (r .state) ≡ j .state
+  pub buffer : after ≡ j .buffer

@@ -1,0 +1,118 @@
+// The bytes of one telegram: its head written and read, and its part of the message copied.
+ghost use mathlib.Core.Path.{_≡_};
+ghost use mathlib.Core.List.{_++_};
+ghost use Prim.Native.Nat.{_+_, _*_, _/_, _%_, _≤_, _<_};
+ghost use lib.ListN.{length};
+ghost use lib.Seq.{sets};
+ghost use Rattle.rules.specs.Event.{be4, four};
+ghost use Rattle.rules.specs.Telegram.{headBytes, telIdOf, telLenOf, malformed};
+
+// MsgID, TelID and TelLen.
+pub(crate) const HEAD: usize = 6;
+
+// Where the counter byte stands in a telegram of several.
+pub(crate) const COUNTER: usize = 6;
+
+pub(crate) const TEL_ID_SINGLE: u32 = 0;
+pub(crate) const TEL_ID_FIRST: u32 = 1;
+pub(crate) const TEL_ID_NEXT: u32 = 2;
+pub(crate) const TEL_ID_FINAL: u32 = 3;
+
+// Copies `part` into `buffer`, from `at` on.
+pub(crate) fn store(buffer: &mut [u8], at: usize, part: &[u8])
+    requires { ⌜ at + length (now part) ≤ length (now buffer) ⌝ }
+    ensures { λ _. ⌜ now (buffer .exit) ≡ sets (now (buffer .entry)) at (now (part .entry)) ⌝ }
+{
+    let mut i = 0;
+    while i < part.len() {
+        buffer[at + i] = part[i];
+        i += 1;
+    }
+}
+
+// The last byte of a number.
+pub(crate) fn low(n: u32) -> u8
+    ensures { λ r. ⌜ r ≡ n % 256 ⌝ }
+{
+    (n & 0xFF) as u8
+}
+
+// TelID and the high bits of TelLen in one byte.
+fn pack(tel_id: u32, tel_len: u32) -> u8
+    requires { ⌜ («tel_id» < 16) × («tel_len» < 4096) ⌝ }
+    ensures { λ r. ⌜ r ≡ «tel_id» * 16 + «tel_len» / 256 ⌝ }
+{
+    ((tel_id << 4) | (tel_len >> 8)) as u8
+}
+
+// Writes the head of a telegram.
+pub(crate) fn write_head(buffer: &mut [u8], msg_id: u32, tel_id: u32, tel_len: u32)
+    requires { ⌜ (6 ≤ length (now buffer)) × («tel_id» < 16) × («tel_len» < 4096) ⌝ }
+    ensures { λ _. ⌜ now (buffer .exit) ≡ sets (now (buffer .entry)) 0 (four «msg_id» ++ headBytes «tel_id» «tel_len») ⌝ }
+{
+    let high = msg_id >> 16;
+    buffer[0] = low(high >> 8);
+    buffer[1] = low(high);
+    buffer[2] = low(msg_id >> 8);
+    buffer[3] = low(msg_id);
+    buffer[4] = pack(tel_id, tel_len);
+    buffer[5] = low(tel_len);
+}
+
+// Two bytes as one number.
+fn word(high: u8, low: u8) -> u32
+    ensures { λ r. ⌜ (r ≡ high * 256 + low) × (r < 65536) ⌝ }
+{
+    (high as u32) << 8 | low as u32
+}
+
+pub(crate) fn msg_id(telegram: &[u8]) -> u32
+    requires { ⌜ 6 ≤ length (now telegram) ⌝ }
+    ensures { λ r. ⌜ r ≡ be4 (now (telegram .entry)) 0 ⌝ }
+{
+    let high = word(telegram[0], telegram[1]);
+    let low = word(telegram[2], telegram[3]);
+    high << 16 | low
+}
+
+pub(crate) fn tel_id(telegram: &[u8]) -> u32
+    requires { ⌜ 6 ≤ length (now telegram) ⌝ }
+    ensures { λ r. ⌜ r ≡ telIdOf (now (telegram .entry)) ⌝ }
+{
+    (telegram[4] >> 4) as u32
+}
+
+pub(crate) fn tel_len(telegram: &[u8]) -> usize
+    requires { ⌜ 6 ≤ length (now telegram) ⌝ }
+    ensures { λ r. ⌜ (r ≡ telLenOf (now (telegram .entry))) × (r < 4096) ⌝ }
+{
+    word(telegram[4] & 0x0F, telegram[5]) as usize
+}
+
+// The telegram is too short, its TelLen wrong or above L, or its counter byte missing.
+pub(crate) fn malformed(l: usize, telegram: &[u8]) -> bool
+    ensures { λ r. ⌜ r ≡ malformed l (now (telegram .entry)) ⌝ }
+{
+    let n = telegram.len();
+    if n < HEAD {
+        return true;
+    }
+    let tel_len = tel_len(telegram);
+    if n != HEAD + tel_len {
+        return true;
+    }
+    if l < tel_len {
+        return true;
+    }
+    if tel_len != 0 {
+        return false;
+    }
+    let tel_id = tel_id(telegram);
+    if tel_id < TEL_ID_FIRST {
+        return false;
+    }
+    if TEL_ID_FINAL < tel_id {
+        return false;
+    }
+    true
+}

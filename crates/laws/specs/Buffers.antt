@@ -6,7 +6,7 @@ use native.Mathlib.Nat.{add-zero}
 use native.Mathlib.Numerals.{add-one}
 use native.Mathlib.Omega.{arith}
 use lib.ListN.{length, drop, getD, set, drop-of-length-le}
-use lib.Seq.{sets, sets-eq, drop-cons}
+use lib.Seq.{sets, sets-eq, drop-cons, drop-set-lt}
 
 module _ {A : Type 0} where
   -- two runs of stores, one behind the other, are one
@@ -17,6 +17,13 @@ module _ {A : Type 0} where
   -- stores from the start: the values, and behind them what stood there
   pub sets-start : (l xs : List A) → length xs ≤ length l → sets l 0 xs ≡ xs ++ drop (length xs) l
   sets-start l xs h = let e : 0 + length xs ≡ length xs = omega arith in sets-eq xs l 0 (omega arith) ∙ rw e refl
+
+  -- what stands behind a run of stores stays
+  pub sets-behind : (l xs : List A) (i : ℕ) → drop (i + length xs) (sets l i xs) ≡ drop (i + length xs) l
+  sets-behind l [] i = refl
+  sets-behind l (x ∷ xs) i =
+      let e : i + suc (length xs) ≡ suc i + length xs = omega arith in
+      rw e (sets-behind (set l i x) xs (suc i) ∙ drop-set-lt (suc i + length xs) l i x (omega arith))
 
   -- a copy, element by element: one turn, with the rest still to be stored
   pub copy-on : (l xs : List A) (at i : ℕ) (d : A) → i < length xs

@@ -1,15 +1,15 @@
 -- Cutting: what the code's tests on bytes and numbers say of the rules' cut.
 use Prim.Native.Nat.{ℕ, zero, suc, _+_, _-_, _*_, _/_, _%_, _<_, _≤_, min}
 use mathlib.Core.Path.{_≡_, refl, sym, _∙_, ap}
-use mathlib.Core.Bool.{Bool, true, false, cond, not, _||_}
+use mathlib.Core.Bool.{true, false, cond, not, _||_}
 use mathlib.Core.List.{List, _∷_, _++_}
+use mathlib.Core.Logic.{_⊎_, inl, inr}
 use native.Mathlib.Omega.{arith}
 use native.Mathlib.Nat.{div-lt-iff-lt-mul, le-div-iff-mul-le, mul-le-mul-left}
-use borrow.Author.Tests.{eqb-true, eqb-false, leb-true, leb-false, lt-ltb, le-ltb, le-leb, lt-leb, eq-eqb, ne-eqb}
+use borrow.Author.Tests.{eqb-true, eqb-false, leb-true, leb-false, lt-ltb, le-ltb, lt-leb, eq-eqb, ne-eqb}
 use lib.Dec.{eqb, leb, ltb}
 use lib.ListN.{length, take, drop, set, length-take, length-drop}
 use lib.Seq.{sets, take-all}
-use mathlib.Core.Logic.{_⊎_, inl, inr}
 use Rattle.laws.specs.Bools.{decide, or-false, or-true-left, or-true-right, cond-true, cond-false}
 use Rattle.rules.specs.House.{minSize, maxPayload}
 use Rattle.rules.specs.Picture.{legalSize}
@@ -218,3 +218,12 @@ module _ (l m : ℕ) (payload : List ℕ) (legal : legalSize l ≡ true) (h : l 
           written b _ b₂ (7 + size) (at-end l m payload legal short k room this (omega (arith, part-long)) ∙ ap cutTo part-bytes)
           (sym (sym (ap length part-bytes) ∙ part-long))
           (stored-part m size b b₁ b₂ i c p part-size e₁ e₂)
+
+-- every message has a telegram
+pub at-least-one : (l n : ℕ) → legalSize l ≡ true → 1 ≤ countOf l n
+unfolding countOf
+at-least-one l n legal = go (decide (leb n l))
+  where
+    go : (leb n l ≡ true) ⊎ (leb n l ≡ false) → 1 ≤ countOf l n
+    go (inl e) = omega (arith, cond-true 1 ((n + (l - 2)) / (l - 1)) e)
+    go (inr e) = let h = leb-false n l e in within l n 1 0 (size-range l legal .0) h refl (omega arith)

@@ -1,23 +1,23 @@
 -- Joining: what the code hands back, from the rules' outcome.
 use Prim.Native.Nat.{ℕ, zero, suc, _+_, _-_, _%_, _≤_}
-use native.Mathlib.Omega.{arith}
-use lib.Dec.{eqb, ltb, leb}
 use mathlib.Core.Path.{_≡_, refl, sym, subst, ap, _∙_}
 use mathlib.Core.Bool.{Bool, true, false, cond, not, _&&_, _||_}
 use mathlib.Core.List.{List}
+use mathlib.Core.Logic.{_⊎_, inl, inr}
+use native.Mathlib.Omega.{arith}
 use borrow.Author.Tests.{le-leb, eq-eqb, ne-eqb, eqb-true, eqb-false, ltb-false}
+use lib.Dec.{eqb, ltb, leb}
 use lib.ListN.{length, getD, take, drop, length-drop}
 use lib.Seq.{sets, take-all, drop-drop, getD-drop}
-use mathlib.Core.Logic.{_⊎_, inl, inr}
 use Rattle.laws.specs.Bools.{clash, decide, not-false, or-left, or-right, and-true, cond-true, cond-false}
 use Rattle.rules.specs.House.{maxPayload}
 use Rattle.rules.specs.Event.{be4}
-use Rattle.rules.specs.Telegram as rules
 use Rattle.rules.specs.Telegram.{begins, continues, joinTo, malformed, telLenOf, telIdOf}
+use Rattle.rules.specs.Telegram as rules
 use Rattle.transport.specs.declared.reassembly.Joined.{Joined}
-use Rattle.transport.specs.declared.reassembly.JoinAnswer.the-variants as joins
 use Rattle.transport.specs.declared.reassembly.Reassembly.{Reassembly}
 use Rattle.transport.specs.Answers.{joiningOf, Joins}
+use Rattle.transport.specs.declared.reassembly.JoinAnswer.the-variants as joins
 
 -- the same outcome by another name
 pub along : {j k : rules.Joined} {r : Joined} {after : List ℕ} → j ≡ k → Joins k r after → Joins j r after

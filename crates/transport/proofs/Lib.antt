@@ -2,3 +2,6 @@
 pub mod Legal
 pub mod Cutting
 pub mod Joining
+pub mod Passing
+pub mod Returning
+pub mod Promises

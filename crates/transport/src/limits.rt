@@ -5,17 +5,24 @@ ghost use Rattle.rules.specs.Picture.{legalSize};
 
 // L, the payload size of a telegram.
 pub const MIN_SIZE: usize = 12;
+
 pub const MAX_SIZE: usize = 45;
 
 // The longest message.
 pub const MAX_PAYLOAD: usize = 65535;
 
 pub const ILLEGAL_SIZE: u8 = 10;
+
 pub const PAYLOAD_TOO_LONG: u8 = 11;
+
 pub const NO_SUCH_TELEGRAM: u8 = 12;
+
 pub const ROOM_TOO_SHORT: u8 = 13;
+
 pub const TELEGRAM_MALFORMED: u8 = 14;
+
 pub const TEL_ID_PASSED_OVER: u8 = 15;
+
 pub const OUT_OF_SEQUENCE: u8 = 16;
 
 // L is outside 12 to 45.

@@ -8,11 +8,19 @@ ghost use Rattle.rules.specs.House.{maxSize, maxPayload};
 ghost use Rattle.rules.specs.Event.{be4};
 ghost use Rattle.rules.specs.Telegram.{idle, opened, dropped, begins, continues, joinTo, telIdOf, malformed, join};
 ghost use Rattle.transport.specs.Answers.{joinNumberOf, joinMsgIdOf, joinLengthOf, joiningOf, Joins};
-
 use super::limits;
-use super::limits::{ILLEGAL_SIZE, MAX_PAYLOAD, OUT_OF_SEQUENCE, ROOM_TOO_SHORT, TELEGRAM_MALFORMED, TEL_ID_PASSED_OVER};
+use super::limits::ILLEGAL_SIZE;
+use super::limits::MAX_PAYLOAD;
+use super::limits::OUT_OF_SEQUENCE;
+use super::limits::ROOM_TOO_SHORT;
+use super::limits::TEL_ID_PASSED_OVER;
+use super::limits::TELEGRAM_MALFORMED;
 use super::telegram;
-use super::telegram::{COUNTER, HEAD, TEL_ID_FINAL, TEL_ID_FIRST, TEL_ID_SINGLE};
+use super::telegram::COUNTER;
+use super::telegram::HEAD;
+use super::telegram::TEL_ID_FINAL;
+use super::telegram::TEL_ID_FIRST;
+use super::telegram::TEL_ID_SINGLE;
 
 // What is remembered between telegrams, as plain numbers: whether a message is open (0: none is), its MsgID, the counter that comes
 // next, and its length so far.
@@ -45,7 +53,10 @@ impl JoinAnswer {
         match self {
             JoinAnswer::Refused(number) => number,
             JoinAnswer::Open => 0,
-            JoinAnswer::Complete { msg_id: _, length: _ } => 0,
+            JoinAnswer::Complete {
+                msg_id: _,
+                length: _,
+            } => 0,
         }
     }
 
@@ -102,13 +113,23 @@ impl Reassembly {
     pub fn fresh() -> Self
         ensures { λ r. ⌜ joiningOf r ≡ idle ⌝ }
     {
-        Reassembly { open: 0, msg_id: 0, counter: 0, length: 0 }
+        Reassembly {
+            open: 0,
+            msg_id: 0,
+            counter: 0,
+            length: 0,
+        }
     }
 
     fn opened(msg_id: u32, counter: u32, length: u32) -> Self
         ensures { λ r. ⌜ joiningOf r ≡ opened «msg_id» counter length ⌝ }
     {
-        Reassembly { open: 1, msg_id, counter, length }
+        Reassembly {
+            open: 1,
+            msg_id,
+            counter,
+            length,
+        }
     }
 
     // TelID 2 and 3: a part of the open message, the last one where `last` says so.
@@ -133,7 +154,10 @@ impl Reassembly {
         telegram::store(buffer, at, part);
         if last {
             return Joined {
-                answer: JoinAnswer::Complete { msg_id: self.msg_id, length: total },
+                answer: JoinAnswer::Complete {
+                    msg_id: self.msg_id,
+                    length: total,
+                },
                 state: Reassembly::fresh(),
             };
         }
@@ -152,7 +176,10 @@ impl Reassembly {
         if tel_id == TEL_ID_SINGLE {
             telegram::store(buffer, 0, &telegram[HEAD..]);
             return Joined {
-                answer: JoinAnswer::Complete { msg_id, length: telegram.len() - HEAD },
+                answer: JoinAnswer::Complete {
+                    msg_id,
+                    length: telegram.len() - HEAD,
+                },
                 state: Reassembly::fresh(),
             };
         }
@@ -168,7 +195,10 @@ impl Reassembly {
     fn refused(self, number: u8) -> Joined
         ensures { λ r. ⌜ (r .answer ≡ JoinAnswer.Refused number) × (r .state ≡ self) ⌝ }
     {
-        Joined { answer: JoinAnswer::Refused(number), state: self }
+        Joined {
+            answer: JoinAnswer::Refused(number),
+            state: self,
+        }
     }
 
     // Takes one telegram into `buffer`, which holds the message from its start on.

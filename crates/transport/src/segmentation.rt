@@ -8,11 +8,19 @@ ghost use Rattle.rules.specs.Picture.{legalSize};
 ghost use Rattle.rules.specs.Telegram.{countOf, count, cut};
 ghost use Rattle.transport.specs.Answers.{countNumberOf, countValueOf, cutNumberOf, cutLengthOf, countAnswer, Cuts};
 ghost use Rattle.transport.specs.Parts.{partId};
-
 use super::limits;
-use super::limits::{ILLEGAL_SIZE, MAX_PAYLOAD, NO_SUCH_TELEGRAM, PAYLOAD_TOO_LONG, ROOM_TOO_SHORT};
+use super::limits::ILLEGAL_SIZE;
+use super::limits::MAX_PAYLOAD;
+use super::limits::NO_SUCH_TELEGRAM;
+use super::limits::PAYLOAD_TOO_LONG;
+use super::limits::ROOM_TOO_SHORT;
 use super::telegram;
-use super::telegram::{COUNTER, HEAD, TEL_ID_FINAL, TEL_ID_FIRST, TEL_ID_NEXT, TEL_ID_SINGLE};
+use super::telegram::COUNTER;
+use super::telegram::HEAD;
+use super::telegram::TEL_ID_FINAL;
+use super::telegram::TEL_ID_FIRST;
+use super::telegram::TEL_ID_NEXT;
+use super::telegram::TEL_ID_SINGLE;
 
 // What `count` answers: the number of a refusal, or how many telegrams the message has.
 pub enum CountAnswer {
@@ -71,7 +79,7 @@ impl CutAnswer {
 }
 
 // How many telegrams a message of n bytes has.
-fn count_of(l: usize, n: usize) -> usize
+pub(crate) fn count_of(l: usize, n: usize) -> usize
     requires { ⌜ (minSize ≤ l) × (n ≤ maxPayload) ⌝ }
     ensures { λ r. ⌜ r ≡ countOf l n ⌝ }
 {
@@ -157,7 +165,12 @@ fn cut_part(l: usize, msg_id: u32, payload: &[u8], number: usize, buffer: &mut [
     if buffer.len() < COUNTER + 1 + size {
         return CutAnswer::Refused(ROOM_TOO_SHORT);
     }
-    telegram::write_head(buffer, msg_id, part_id(before, left, most), (1 + size) as u32);
+    telegram::write_head(
+        buffer,
+        msg_id,
+        part_id(before, left, most),
+        (1 + size) as u32,
+    );
     buffer[COUNTER] = telegram::low(before as u32);
     telegram::store(buffer, COUNTER + 1, &payload[from..from + size]);
     CutAnswer::Length(COUNTER + 1 + size)

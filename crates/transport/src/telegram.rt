@@ -14,8 +14,11 @@ pub(crate) const HEAD: usize = 6;
 pub(crate) const COUNTER: usize = 6;
 
 pub(crate) const TEL_ID_SINGLE: u32 = 0;
+
 pub(crate) const TEL_ID_FIRST: u32 = 1;
+
 pub(crate) const TEL_ID_NEXT: u32 = 2;
+
 pub(crate) const TEL_ID_FINAL: u32 = 3;
 
 // Copies `part` into `buffer`, from `at` on.

@@ -2,20 +2,15 @@ use borrow.Author.Tests.{lt-leb, le-leb}
 use Rattle.rules.specs.Picture.{legalSize}
 use Rattle.transport.proofs.limits.illegal.Statement.{statement}
 use Rattle.transport.proofs.limits.illegal.Tie as tie
-use Rattle.transport.proofs.limits.illegal.Reads as reads
-use Rattle.transport.proofs.limits.illegal.Lts as lts
 
--- src/limits.rt:26:9
 returns : tie.Need-returns
 unfolding legalSize
 returns c = simp (lt-leb _ _ (c .if1 .taken))
 
--- src/limits.rt:29:9
 returns-2 : tie.Need-returns-2
 unfolding legalSize
 returns-2 c = simp (le-leb _ _ (c .before .if1 .left), lt-leb _ _ (c .if2 .taken))
 
--- src/limits.rt:22:1
 returns-3 : tie.Need-returns-3
 unfolding legalSize
 returns-3 c = simp (le-leb _ _ (c .before .if1 .left), le-leb _ _ (c .if2 .left))

@@ -3,20 +3,15 @@ use borrow.Author.Tests.{eq-eqb, ne-eqb, lt-leb, le-leb}
 use Rattle.transport.specs.Parts.{partId}
 use Rattle.transport.proofs.segmentation.part_id.Statement.{statement}
 use Rattle.transport.proofs.segmentation.part_id.Tie as tie
-use Rattle.transport.proofs.segmentation.part_id.Reads as reads
-use Rattle.transport.proofs.segmentation.part_id.Lts as lts
 
--- src/segmentation.rt:129:9
 returns : tie.Need-returns
 unfolding partId
 returns c = (simp (eq-eqb _ _ (c .if1 .taken)), omega arith)
 
--- src/segmentation.rt:132:9
 returns-2 : tie.Need-returns-2
 unfolding partId
 returns-2 c = (simp (ne-eqb _ _ (c .before .if1 .left), le-leb _ _ (c .if2 .taken)), omega arith)
 
--- src/segmentation.rt:125:1
 returns-3 : tie.Need-returns-3
 unfolding partId
 returns-3 c = (simp (ne-eqb _ _ (c .before .if1 .left), lt-leb _ _ (c .if2 .left)), omega arith)

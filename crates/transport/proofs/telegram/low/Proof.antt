@@ -1,14 +1,10 @@
 use lib.Bits.{and-mask, mask-lt}
 use Rattle.transport.proofs.telegram.low.Statement.{statement}
 use Rattle.transport.proofs.telegram.low.Tie as tie
-use Rattle.transport.proofs.telegram.low.Reads as reads
-use Rattle.transport.proofs.telegram.low.Lts as lts
 
--- src/telegram.rt:29:5
 cast-result : tie.Need-cast-result
 cast-result c = record { fits = mask-lt (c .args .n) 8 }
 
--- src/telegram.rt:26:1
 returns : tie.Need-returns
 returns c = and-mask (c .args .n) 8
 

@@ -2,10 +2,7 @@ use native.Mathlib.Omega.{arith}
 use Rattle.laws.specs.Bits.{shift-or}
 use Rattle.transport.proofs.telegram.word.Statement.{statement}
 use Rattle.transport.proofs.telegram.word.Tie as tie
-use Rattle.transport.proofs.telegram.word.Reads as reads
-use Rattle.transport.proofs.telegram.word.Lts as lts
 
--- src/telegram.rt:55:1
 returns : tie.Need-returns
 returns c = let e = shift-or 32 8 (c .args .high) (c .args .low) (omega arith) (omega arith) in (e, omega arith)
 

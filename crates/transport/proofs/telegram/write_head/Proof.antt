@@ -1,70 +1,52 @@
 use mathlib.Core.List.{[], _∷_}
-use lib.Seq.{sets}
 use native.Mathlib.Omega.{arith}
+use borrow.Author.Needs.{needs}
+use lib.Seq.{sets}
 use lib.ListN.{length-set}
 use Rattle.rules.specs.Event.{two, four}
 use Rattle.rules.specs.Telegram.{headBytes}
-use borrow.Author.Needs.{needs}
 use Rattle.transport.proofs.telegram.write_head.Statement.{statement}
 use Rattle.transport.proofs.telegram.write_head.Tie as tie
-use Rattle.transport.proofs.telegram.write_head.Reads as reads
-use Rattle.transport.proofs.telegram.write_head.Lts as lts
-use Rattle.transport.proofs.telegram.low.Reads as low-reads
-use Rattle.transport.proofs.telegram.pack.Reads as pack-reads
 
--- src/telegram.rt:46:17
 low-requires : tie.Need-low-requires
 low-requires c κs = search needs
 
--- src/telegram.rt:46:5
 slice-write-buffer : tie.Need-slice-write-buffer
 slice-write-buffer c = search needs
 
--- src/telegram.rt:47:17
 low-requires-2 : tie.Need-low-requires-2
 low-requires-2 c κs = search needs
 
--- src/telegram.rt:47:5
 slice-write-buffer-2 : tie.Need-slice-write-buffer-2
 slice-write-buffer-2 c = simp length-set (omega arith)
 
--- src/telegram.rt:48:17
 low-requires-3 : tie.Need-low-requires-3
 low-requires-3 c κs = search needs
 
--- src/telegram.rt:48:5
 slice-write-buffer-3 : tie.Need-slice-write-buffer-3
 slice-write-buffer-3 c = simp length-set (omega arith)
 
--- src/telegram.rt:49:17
 low-requires-4 : tie.Need-low-requires-4
 low-requires-4 c κs = search needs
 
--- src/telegram.rt:49:5
 slice-write-buffer-4 : tie.Need-slice-write-buffer-4
 slice-write-buffer-4 c = simp length-set (omega arith)
 
--- src/telegram.rt:50:17
 pack-requires : tie.Need-pack-requires
 pack-requires c κs = search needs
 
--- src/telegram.rt:50:5
 slice-write-buffer-5 : tie.Need-slice-write-buffer-5
 slice-write-buffer-5 c = simp length-set (omega arith)
 
--- src/telegram.rt:51:17
 low-requires-5 : tie.Need-low-requires-5
 low-requires-5 c κs = search needs
 
--- src/telegram.rt:51:5
 slice-write-buffer-6 : tie.Need-slice-write-buffer-6
 slice-write-buffer-6 c = search needs
 
--- src/telegram.rt:41:1
 same-length : tie.Need-same-length
 same-length c = search needs
 
--- src/telegram.rt:41:1
 returns : tie.Need-returns
 unfolding four two headBytes
 returns c =

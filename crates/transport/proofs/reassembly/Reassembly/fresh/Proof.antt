@@ -2,10 +2,7 @@ use mathlib.Core.Path.{refl}
 use Rattle.transport.specs.Answers.{joiningOf}
 use Rattle.transport.proofs.reassembly.Reassembly.fresh.Statement.{statement}
 use Rattle.transport.proofs.reassembly.Reassembly.fresh.Tie as tie
-use Rattle.transport.proofs.reassembly.Reassembly.fresh.Reads as reads
-use Rattle.transport.proofs.reassembly.Reassembly.fresh.Lts as lts
 
--- src/reassembly.rt:102:5
 returns : tie.Need-returns
 unfolding joiningOf
 returns c = refl

@@ -2,10 +2,7 @@ use mathlib.Core.Path.{refl}
 use Rattle.transport.specs.Answers.{joiningOf}
 use Rattle.transport.proofs.reassembly.Reassembly.opened.Statement.{statement}
 use Rattle.transport.proofs.reassembly.Reassembly.opened.Tie as tie
-use Rattle.transport.proofs.reassembly.Reassembly.opened.Reads as reads
-use Rattle.transport.proofs.reassembly.Reassembly.opened.Lts as lts
 
--- src/reassembly.rt:108:5
 returns : tie.Need-returns
 unfolding joiningOf
 returns c = refl

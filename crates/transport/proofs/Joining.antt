@@ -23,6 +23,11 @@ use Rattle.transport.specs.declared.reassembly.JoinAnswer.the-variants a
 pub along : {j k : rules.Joined} {r : Joined} {after : List ℕ} → j ≡ k → Joins k r after → Joins j r after
 along {j} {k} {r} {after} e h = subst (λ (x : rules.Joined). Joins x r after) (sym e) h
 
+-- 16
+pub drops : {j : rules.Joined} {r : Joined} (b : List ℕ) → j ≡ rules.dropped b → r .answer ≡ joins.Refused 16 → joiningOf (r .state) ≡ rules.idle → Joins j r b
+unfolding rules.dropped
+drops b e f g = along e (record { answered = f; next = g; buffer = refl })
+
 -- a part that the open message waits for
 module _ (s : Reassembly) (m c : ℕ) (part b : List ℕ) (some : s .open ≡ 0 → ⊥) (same : m ≡ s .«msg_id») (next : c ≡ s .counter)
     (fits : s .length + length part ≤ maxPayload) where

@@ -11,7 +11,7 @@ use lib.ListN.{length, take}
 use lib.Seq.{sets, length-sets, take-append-seam}
 use Rattle.laws.specs.Bools.{decide}
 use Rattle.laws.specs.Buffers.{sets-start}
-use Rattle.rules.specs.House.{maxPayload}
+use Rattle.rules.specs.House.{maxSize, maxPayload}
 use Rattle.rules.specs.Picture.{legalSize}
 use Rattle.rules.specs.Telegram.{countOf, telegramOf, cut, cutTo, cutBytes}
 use Rattle.rules.proofs.RoundTrip.{size-range, lengths, cuts}
@@ -40,7 +40,7 @@ module _ (l m : ℕ) (payload : List ℕ) (k : ℕ) (legal : legalSize l ≡ tru
           let o = lengths l m payload legal .several h k low (leb-false (countOf l (length payload)) k d) in
           omega arith
 
-  module _ {b after : List ℕ} {r : CutAnswer} (long : length b ≡ 51) (h : Cuts (cut l m payload k (length b)) b r after) where
+  module _ {b after : List ℕ} {r : CutAnswer} (long : length b ≡ 6 + maxSize) (h : Cuts (cut l m payload k (length b)) b r after) where
     is : cut l m payload k (length b) ≡ cutTo (telegramOf l m payload k)
     is = cuts l m payload legal short .cuts k (length b) low high (omega (arith, fits, size-range l legal))
 

@@ -6,7 +6,7 @@ ghost use lib.Dec.{eqb};
 ghost use lib.ListN.{length, drop};
 ghost use Rattle.rules.specs.House.{maxSize, maxPayload};
 ghost use Rattle.rules.specs.Event.{be4};
-ghost use Rattle.rules.specs.Telegram.{idle, opened, dropped, begins, continues, joinTo, telIdOf, malformed, join};
+ghost use Rattle.rules.specs.Telegram.{idle, opened, begins, continues, joinTo, telIdOf, malformed, join};
 ghost use Rattle.transport.specs.Answers.{joinNumberOf, joinMsgIdOf, joinLengthOf, joiningOf, Joins};
 use super::limits;
 use super::limits::ILLEGAL_SIZE;
@@ -83,31 +83,6 @@ impl JoinAnswer {
     }
 }
 
-// 16: an open message is dropped.
-fn drop_message(buffer: &mut [u8]) -> Joined
-    ensures { λ r. ⌜ Joins (dropped (now (buffer .entry))) r (now (buffer .exit)) ⌝ }
-{
-    Joined {
-        answer: JoinAnswer::Refused(OUT_OF_SEQUENCE),
-        state: Reassembly::fresh(),
-    }
-}
-
-// TelID 1.
-fn begin(msg_id: u32, counter: u8, buffer: &mut [u8], part: &[u8]) -> Joined
-    requires { ⌜ (maxPayload ≤ length (now buffer)) × (length (now part) ≤ maxSize) ⌝ }
-    ensures { λ r. ⌜ Joins (begins «msg_id» counter (now (part .entry)) (now (buffer .entry))) r (now (buffer .exit)) ⌝ }
-{
-    if counter != 0 {
-        return drop_message(buffer);
-    }
-    telegram::store(buffer, 0, part);
-    Joined {
-        answer: JoinAnswer::Open,
-        state: Reassembly::opened(msg_id, 1, part.len() as u32),
-    }
-}
-
 impl Reassembly {
     // No message is open.
     pub fn fresh() -> Self
@@ -132,24 +107,57 @@ impl Reassembly {
         }
     }
 
+    // 10, 13, 14 and 15 leave an open message as it is.
+    fn refused(self, number: u8) -> Joined
+        ensures { λ r. ⌜ (r .answer ≡ JoinAnswer.Refused number) × (r .state ≡ self) ⌝ }
+    {
+        Joined {
+            answer: JoinAnswer::Refused(number),
+            state: self,
+        }
+    }
+
+    // 16 drops it.
+    fn dropped(mut self) -> Joined
+        ensures { λ r. ⌜ (r .answer ≡ JoinAnswer.Refused 16) × (joiningOf (r .state) ≡ idle) ⌝ }
+    {
+        self.open = 0;
+        self.refused(OUT_OF_SEQUENCE)
+    }
+
+    // TelID 1: the first part of a message.
+    fn begin(self, msg_id: u32, counter: u8, buffer: &mut [u8], part: &[u8]) -> Joined
+        requires { ⌜ (maxPayload ≤ length (now buffer)) × (length (now part) ≤ maxSize) ⌝ }
+        ensures { λ r. ⌜ Joins (begins «msg_id» counter (now (part .entry)) (now (buffer .entry))) r (now (buffer .exit)) ⌝ }
+    {
+        if counter != 0 {
+            return self.dropped();
+        }
+        telegram::store(buffer, 0, part);
+        Joined {
+            answer: JoinAnswer::Open,
+            state: Reassembly::opened(msg_id, 1, part.len() as u32),
+        }
+    }
+
     // TelID 2 and 3: a part of the open message, the last one where `last` says so.
     fn go_on(self, last: bool, msg_id: u32, counter: u8, buffer: &mut [u8], part: &[u8]) -> Joined
         requires { ⌜ (maxPayload ≤ length (now buffer)) × (length (now part) ≤ maxSize) ⌝ }
         ensures { λ r. ⌜ Joins (continues last (joiningOf self) «msg_id» counter (now (part .entry)) (now (buffer .entry))) r (now (buffer .exit)) ⌝ }
     {
         if self.open == 0 {
-            return drop_message(buffer);
+            return self.dropped();
         }
         if msg_id != self.msg_id {
-            return drop_message(buffer);
+            return self.dropped();
         }
         if counter as u32 != self.counter {
-            return drop_message(buffer);
+            return self.dropped();
         }
         let at = self.length as usize;
         let total = at + part.len();
         if MAX_PAYLOAD < total {
-            return drop_message(buffer);
+            return self.dropped();
         }
         telegram::store(buffer, at, part);
         if last {
@@ -186,19 +194,9 @@ impl Reassembly {
         let counter = telegram[COUNTER];
         let part = &telegram[COUNTER + 1..];
         if tel_id == TEL_ID_FIRST {
-            return begin(msg_id, counter, buffer, part);
+            return self.begin(msg_id, counter, buffer, part);
         }
         self.go_on(tel_id == TEL_ID_FINAL, msg_id, counter, buffer, part)
-    }
-
-    // 10, 13, 14 and 15 leave an open message as it is.
-    fn refused(self, number: u8) -> Joined
-        ensures { λ r. ⌜ (r .answer ≡ JoinAnswer.Refused number) × (r .state ≡ self) ⌝ }
-    {
-        Joined {
-            answer: JoinAnswer::Refused(number),
-            state: self,
-        }
     }
 
     // Takes one telegram into `buffer`, which holds the message from its start on.

@@ -18,6 +18,9 @@ use super::reassembly::Joined;
 use super::reassembly::Reassembly;
 use super::segmentation;
 
+// The longest telegram: a head and 45 bytes.
+const LONGEST: usize = 51;
+
 // Telegram `number` of a message, cut and then given to `join`.
 fn pass_on(
     l: usize,
@@ -30,7 +33,7 @@ fn pass_on(
     requires { ⌜ (legalSize l ≡ true) × (length (now payload) ≤ maxPayload) × (1 ≤ number) × (number ≤ countOf l (length (now payload))) ⌝ }
     ensures { λ r. ⌜ Joins (join l (joiningOf state) (now (buffer .entry)) (telegramOf l «msg_id» (now (payload .entry)) number)) r (now (buffer .exit)) ⌝ }
 {
-    let mut telegram = [0u8; 51];
+    let mut telegram = [0u8; LONGEST];
     let length = segmentation::cut(l, msg_id, payload, number, &mut telegram).length();
     state.join(l, buffer, &telegram[..length])
 }

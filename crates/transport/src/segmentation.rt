@@ -187,8 +187,8 @@ pub fn cut(l: usize, msg_id: u32, payload: &[u8], number: usize, buffer: &mut [u
     if MAX_PAYLOAD < n {
         return CutAnswer::Refused(PAYLOAD_TOO_LONG);
     }
-    if n <= l {
-        return cut_single(l, msg_id, payload, number, buffer);
+    if l < n {
+        return cut_part(l, msg_id, payload, number, buffer);
     }
-    cut_part(l, msg_id, payload, number, buffer)
+    cut_single(l, msg_id, payload, number, buffer)
 }

@@ -1,3 +1,4 @@
+-- `illegal` is the rules' test of L: one case for each return.
 use borrow.Author.Tests.{lt-leb, le-leb}
 use Rattle.rules.specs.Picture.{legalSize}
 use Rattle.transport.proofs.limits.illegal.Statement.{statement}

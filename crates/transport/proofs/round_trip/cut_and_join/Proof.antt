@@ -1,3 +1,4 @@
+-- The message comes back: at every turn the telegrams that are left, joined from here on, give the whole message.
 use Prim.Native.Nat.{ℕ, _-_, _≤_}
 use mathlib.Core.Path.{_≡_, refl, sym, _∙_, subst}
 use native.Mathlib.Omega.{arith}

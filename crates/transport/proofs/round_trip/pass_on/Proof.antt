@@ -1,3 +1,4 @@
+-- `pass_on` gives `join` the telegram that the rules cut.
 use Prim.Native.Nat.{ℕ}
 use mathlib.Core.Path.{refl, sym, ap, _∙_}
 use native.Mathlib.Omega.{arith}

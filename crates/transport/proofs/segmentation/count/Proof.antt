@@ -1,3 +1,4 @@
+-- `count` answers what the rules count: one case for each return.
 use mathlib.Core.Path.{sym, _∙_}
 use native.Mathlib.Omega.{arith}
 use borrow.Author.Tests.{lt-ltb, le-ltb}

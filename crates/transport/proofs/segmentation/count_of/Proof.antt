@@ -1,3 +1,4 @@
+-- `count_of` is the rules' count.
 use borrow.Author.Tests.{lt-leb, le-leb}
 use borrow.Author.Needs.{needs}
 use Rattle.rules.specs.Telegram.{countOf}

@@ -1,3 +1,4 @@
+-- `cut` refuses 10 and 11, and leaves the rest to the two kinds of message.
 use mathlib.Core.Path.{sym, _∙_}
 use borrow.Author.Needs.{needs}
 use Rattle.transport.proofs.Legal.{legal}
@@ -23,12 +24,13 @@ returns-2 c =
     let a = start .args in
     refused (a .buffer .now) (at-11 (a .l) (a .msg-id) (a .payload .now) (a .number) _ (legal _ (at-illegal .illegal .ensures) (at-if1 .if1 .left)) (c .if2 .taken))
 
-cut-single-requires : tie.Need-cut-single-requires
-cut-single-requires c κs =
+cut-part-requires : tie.Need-cut-part-requires
+cut-part-requires c κs =
     let at-if3 = c .before in
-    let at-if1 = at-if3 .before .before in
+    let at-if2 = at-if3 .before in
+    let at-if1 = at-if2 .before in
     let at-illegal = at-if1 .before in
-    (legal _ (at-illegal .illegal .ensures) (at-if1 .if1 .left), at-if3 .if3 .taken)
+    (legal _ (at-illegal .illegal .ensures) (at-if1 .if1 .left), at-if3 .if3 .taken, at-if2 .if2 .left)
 
 same-length : tie.Need-same-length
 same-length c = search needs
@@ -36,13 +38,12 @@ same-length c = search needs
 returns-3 : tie.Need-returns-3
 returns-3 c = search needs
 
-cut-part-requires : tie.Need-cut-part-requires
-cut-part-requires c κs =
+cut-single-requires : tie.Need-cut-single-requires
+cut-single-requires c κs =
     let at-if3 = c .before in
-    let at-if2 = at-if3 .before in
-    let at-if1 = at-if2 .before in
+    let at-if1 = at-if3 .before .before in
     let at-illegal = at-if1 .before in
-    (legal _ (at-illegal .illegal .ensures) (at-if1 .if1 .left), at-if3 .if3 .left, at-if2 .if2 .left)
+    (legal _ (at-illegal .illegal .ensures) (at-if1 .if1 .left), at-if3 .if3 .left)
 
 same-length-2 : tie.Need-same-length-2
 same-length-2 c = search needs
@@ -57,9 +58,9 @@ cut-spec =
     illegal-requires
     returns
     returns-2
-    cut-single-requires
+    cut-part-requires
     same-length
     returns-3
-    cut-part-requires
+    cut-single-requires
     same-length-2
     returns-4)

@@ -1,9 +1,11 @@
+-- `cut_part` writes one of several telegrams, or refuses 12 or 13.
 use Prim.Native.Nat.{ℕ, _+_, _-_, _*_}
 use mathlib.Core.Path.{_≡_, ap, _∙_}
 use native.Mathlib.Omega.{arith}
 use native.Mathlib.Nat.{mul-le-mul}
 use borrow.Author.Needs.{needs}
 use lib.ListN.{length-take, length-drop, take, drop, length-set}
+use Rattle.rules.specs.House.{maxSize, maxPayload}
 use Rattle.rules.proofs.RoundTrip.{size-range}
 use Rattle.transport.proofs.Cutting.{part-none, part-many, part-12, part-13, part-cuts, refused}
 use Rattle.transport.proofs.segmentation.cut_part.Statement.{statement}
@@ -34,7 +36,7 @@ mul-from c =
     let start = c .before .before .before .before in
     let a = start .args in
     let z = size-range (a .l) (start .pre .0) in
-    let m = mul-le-mul {n₁ = a .number - 1} {m₁ = a .l - 1} {n₂ = 65_535} {m₂ = 45} (omega arith) (omega arith) in
+    let m = mul-le-mul {n₁ = a .number - 1} {m₁ = a .l - 1} {n₂ = maxPayload} {m₂ = maxSize} (omega arith) (omega arith) in
     omega arith
 
 returns-3 : tie.Need-returns-3

@@ -1,3 +1,4 @@
+-- `cut_single` writes the only telegram, or refuses 12 or 13.
 use mathlib.Core.Path.{sym}
 use native.Mathlib.Omega.{arith}
 use borrow.Author.Needs.{needs}

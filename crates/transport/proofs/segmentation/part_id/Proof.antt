@@ -1,3 +1,4 @@
+-- `part_id` goes by the bytes that are left.
 use native.Mathlib.Omega.{arith}
 use borrow.Author.Tests.{eq-eqb, ne-eqb, lt-leb, le-leb}
 use Rattle.transport.specs.Parts.{partId}

@@ -1,3 +1,4 @@
+-- `low` is the remainder by 256, by mask.
 use lib.Bits.{and-mask, mask-lt}
 use Rattle.transport.proofs.telegram.low.Statement.{statement}
 use Rattle.transport.proofs.telegram.low.Tie as tie

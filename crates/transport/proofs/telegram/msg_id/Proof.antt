@@ -1,3 +1,4 @@
+-- `msg_id` is the number of the first four bytes.
 use native.Mathlib.Omega.{arith}
 use borrow.Author.Needs.{needs}
 use Rattle.laws.specs.Bits.{shift-or}

@@ -1,3 +1,4 @@
+-- `pack` puts two numbers into one byte, by shift.
 use Prim.Native.Nat.{_/_}
 use native.Mathlib.Omega.{arith}
 use Rattle.laws.specs.Bits.{shift-or}

@@ -1,3 +1,4 @@
+-- `store` copies the part: what is left to copy, stored from here on, gives the whole copy at every turn.
 use Prim.Native.Nat.{_+_, _-_, _≤_}
 use mathlib.Core.Path.{_≡_, refl, sym, _∙_}
 use native.Mathlib.Omega.{arith}

@@ -1,3 +1,4 @@
+-- `tel_id` is the high half of byte 4.
 use native.Mathlib.Omega.{arith}
 use borrow.Author.Needs.{needs}
 use Rattle.rules.specs.Telegram.{telIdOf}

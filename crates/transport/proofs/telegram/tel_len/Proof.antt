@@ -1,3 +1,4 @@
+-- `tel_len` is the low half of byte 4 and byte 5.
 use native.Mathlib.Omega.{arith}
 use borrow.Author.Needs.{needs}
 use lib.Bits.{and-mask}

@@ -1,3 +1,4 @@
+-- `word` is a number of two bytes, by shift.
 use native.Mathlib.Omega.{arith}
 use Rattle.laws.specs.Bits.{shift-or}
 use Rattle.transport.proofs.telegram.word.Statement.{statement}

@@ -1,3 +1,4 @@
+-- `write_head` stores the six bytes of the head.
 use mathlib.Core.List.{[], _∷_}
 use native.Mathlib.Omega.{arith}
 use borrow.Author.Needs.{needs}

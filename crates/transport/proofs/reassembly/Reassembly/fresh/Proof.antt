@@ -1,3 +1,4 @@
+-- A fresh state has no open message.
 use mathlib.Core.Path.{refl}
 use Rattle.transport.specs.Answers.{joiningOf}
 use Rattle.transport.proofs.reassembly.Reassembly.fresh.Statement.{statement}

@@ -1,54 +1,46 @@
+-- `go_on` is the rules' way of TelID 2 and 3: one case for each return.
 use Prim.Native.Nat.{_+_}
 use borrow.Author.Tests.{lt-leb, eq-eqb, ne-eqb}
 use borrow.Author.Needs.{needs}
 use lib.Bits.{and-mask}
 use Rattle.rules.specs.Telegram.{continues}
-use Rattle.transport.proofs.Joining.{along, completes, stays-open}
 use Rattle.transport.specs.Answers.{joiningOf}
+use Rattle.transport.proofs.Joining.{drops, completes, stays-open}
 use Rattle.transport.proofs.reassembly.Reassembly.go_on.Statement.{statement}
 use Rattle.transport.proofs.reassembly.Reassembly.go_on.Tie as tie
 
-drop-message-requires : tie.Need-drop-message-requires
-drop-message-requires c κs = search needs
-
-same-length : tie.Need-same-length
-same-length c = search needs
+dropped-requires : tie.Need-dropped-requires
+dropped-requires c κs = search needs
 
 returns : tie.Need-returns
 unfolding joiningOf continues
 returns c =
-    let at-drop-message = c .before .before in
-    let at-if1 = at-drop-message .before .before in
-    along (simp (eq-eqb _ _ (at-if1 .if1 .taken))) (at-drop-message .drop-message .ensures)
+    let at-if1 = c .before in
+    let start = at-if1 .before .before .before .before in
+    drops (start .args .buffer .now) (simp (eq-eqb _ _ (at-if1 .if1 .taken))) (c .dropped .ensures .0) (c .dropped .ensures .1)
 
-drop-message-requires-2 : tie.Need-drop-message-requires-2
-drop-message-requires-2 c κs = search needs
-
-same-length-2 : tie.Need-same-length-2
-same-length-2 c = search needs
+dropped-requires-2 : tie.Need-dropped-requires-2
+dropped-requires-2 c κs = search needs
 
 returns-2 : tie.Need-returns-2
 unfolding joiningOf continues
 returns-2 c =
-    let at-drop-message2 = c .before .before in
-    let at-if2 = at-drop-message2 .before .before in
+    let at-if2 = c .before in
     let at-if1 = at-if2 .before .before in
-    along (simp (ne-eqb _ _ (at-if1 .if1 .left), ne-eqb _ _ (at-if2 .if2 .taken))) (at-drop-message2 .drop-message2 .ensures)
+    let start = at-if1 .before .before .before .before in
+    drops (start .args .buffer .now) (simp (ne-eqb _ _ (at-if1 .if1 .left), ne-eqb _ _ (at-if2 .if2 .taken))) (c .dropped2 .ensures .0) (c .dropped2 .ensures .1)
 
-drop-message-requires-3 : tie.Need-drop-message-requires-3
-drop-message-requires-3 c κs = search needs
-
-same-length-3 : tie.Need-same-length-3
-same-length-3 c = search needs
+dropped-requires-3 : tie.Need-dropped-requires-3
+dropped-requires-3 c κs = search needs
 
 returns-3 : tie.Need-returns-3
 unfolding joiningOf continues
 returns-3 c =
-    let at-drop-message3 = c .before .before in
-    let at-if3 = at-drop-message3 .before .before in
+    let at-if3 = c .before in
     let at-if2 = at-if3 .before .before in
     let at-if1 = at-if2 .before .before in
-    along (simp (ne-eqb _ _ (at-if1 .if1 .left), eq-eqb _ _ (at-if2 .if2 .left), ne-eqb _ _ (at-if3 .if3 .taken))) (at-drop-message3 .drop-message3 .ensures)
+    let start = at-if1 .before .before .before .before in
+    drops (start .args .buffer .now) (simp (ne-eqb _ _ (at-if1 .if1 .left), eq-eqb _ _ (at-if2 .if2 .left), ne-eqb _ _ (at-if3 .if3 .taken))) (c .dropped3 .ensures .0) (c .dropped3 .ensures .1)
 
 cast-at : tie.Need-cast-at
 cast-at c = search needs
@@ -56,21 +48,18 @@ cast-at c = search needs
 add-total : tie.Need-add-total
 add-total c = search needs
 
-drop-message-requires-4 : tie.Need-drop-message-requires-4
-drop-message-requires-4 c κs = search needs
-
-same-length-4 : tie.Need-same-length-4
-same-length-4 c = search needs
+dropped-requires-4 : tie.Need-dropped-requires-4
+dropped-requires-4 c κs = search needs
 
 returns-4 : tie.Need-returns-4
 unfolding joiningOf continues
 returns-4 c =
-    let at-drop-message4 = c .before .before in
-    let at-if4 = at-drop-message4 .before .before in
+    let at-if4 = c .before in
     let at-if3 = at-if4 .before .before in
     let at-if2 = at-if3 .before .before in
     let at-if1 = at-if2 .before .before in
-    along (simp (ne-eqb _ _ (at-if1 .if1 .left), eq-eqb _ _ (at-if2 .if2 .left), eq-eqb _ _ (at-if3 .if3 .left), lt-leb _ _ (at-if4 .if4 .taken))) (at-drop-message4 .drop-message4 .ensures)
+    let start = at-if1 .before .before .before .before in
+    drops (start .args .buffer .now) (simp (ne-eqb _ _ (at-if1 .if1 .left), eq-eqb _ _ (at-if2 .if2 .left), eq-eqb _ _ (at-if3 .if3 .left), lt-leb _ _ (at-if4 .if4 .taken))) (c .dropped4 .ensures .0) (c .dropped4 .ensures .1)
 
 store-requires : tie.Need-store-requires
 store-requires c κs = search needs
@@ -78,8 +67,8 @@ store-requires c κs = search needs
 fresh-requires : tie.Need-fresh-requires
 fresh-requires c κs = search needs
 
-same-length-5 : tie.Need-same-length-5
-same-length-5 c = search needs
+same-length : tie.Need-same-length
+same-length c = search needs
 
 returns-5 : tie.Need-returns-5
 returns-5 c =
@@ -102,8 +91,8 @@ cast-opened c = search needs
 opened-requires : tie.Need-opened-requires
 opened-requires c κs = search needs
 
-same-length-6 : tie.Need-same-length-6
-same-length-6 c = search needs
+same-length-2 : tie.Need-same-length-2
+same-length-2 c = search needs
 
 returns-6 : tie.Need-returns-6
 returns-6 c =
@@ -121,26 +110,22 @@ pub go-on-spec : {M : Type 1} → statement M
 go-on-spec =
     tie.close
     (tie.spec
-    drop-message-requires
-    same-length
+    dropped-requires
     returns
-    drop-message-requires-2
-    same-length-2
+    dropped-requires-2
     returns-2
-    drop-message-requires-3
-    same-length-3
+    dropped-requires-3
     returns-3
     cast-at
     add-total
-    drop-message-requires-4
-    same-length-4
+    dropped-requires-4
     returns-4
     store-requires
     fresh-requires
-    same-length-5
+    same-length
     returns-5
     add-opened
     cast-opened
     opened-requires
-    same-length-6
+    same-length-2
     returns-6)

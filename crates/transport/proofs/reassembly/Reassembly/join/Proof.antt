@@ -1,3 +1,4 @@
+-- `join` refuses 10, 13, 14 and 15 in the rules' order, and leaves the rest to `take`.
 use mathlib.Core.Path.{sym, _∙_}
 use native.Mathlib.Omega.{arith}
 use borrow.Author.Tests.{lt-ltb, le-ltb, lt-leb, le-leb}

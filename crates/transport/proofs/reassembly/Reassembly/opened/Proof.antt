@@ -1,3 +1,4 @@
+-- An opened state has the message that it is made of.
 use mathlib.Core.Path.{refl}
 use Rattle.transport.specs.Answers.{joiningOf}
 use Rattle.transport.proofs.reassembly.Reassembly.opened.Statement.{statement}

@@ -1,3 +1,4 @@
+-- `take` goes by the TelID as the rules do.
 use mathlib.Core.Path.{refl}
 use native.Mathlib.Omega.{arith}
 use borrow.Author.Needs.{needs}

@@ -1,23 +1,21 @@
+-- `begin` is the rules' way of TelID 1.
 use mathlib.Core.Path.{refl}
 use borrow.Author.Tests.{eq-eqb, ne-eqb}
 use borrow.Author.Needs.{needs}
 use Rattle.rules.specs.Telegram.{begins}
-use Rattle.transport.proofs.Joining.{along}
-use Rattle.transport.proofs.reassembly.begin.Statement.{statement}
-use Rattle.transport.proofs.reassembly.begin.Tie as tie
+use Rattle.transport.proofs.Joining.{drops}
+use Rattle.transport.proofs.reassembly.Reassembly.begin.Statement.{statement}
+use Rattle.transport.proofs.reassembly.Reassembly.begin.Tie as tie
 
-drop-message-requires : tie.Need-drop-message-requires
-drop-message-requires c κs = search needs
-
-same-length : tie.Need-same-length
-same-length c = search needs
+dropped-requires : tie.Need-dropped-requires
+dropped-requires c κs = search needs
 
 returns : tie.Need-returns
 unfolding begins
 returns c =
-    let at-drop-message = c .before .before in
-    let at-if1 = at-drop-message .before .before in
-    along (simp (ne-eqb _ _ (at-if1 .if1 .taken))) (at-drop-message .drop-message .ensures)
+    let at-if1 = c .before in
+    let start = at-if1 .before .before .before in
+    drops (start .args .buffer .now) (simp (ne-eqb _ _ (at-if1 .if1 .taken))) (c .dropped .ensures .0) (c .dropped .ensures .1)
 
 store-requires : tie.Need-store-requires
 store-requires c κs = search needs
@@ -28,8 +26,8 @@ cast-opened c = search needs
 opened-requires : tie.Need-opened-requires
 opened-requires c κs = search needs
 
-same-length-2 : tie.Need-same-length-2
-same-length-2 c = search needs
+same-length : tie.Need-same-length
+same-length c = search needs
 
 returns-2 : tie.Need-returns-2
 unfolding begins
@@ -42,11 +40,10 @@ pub begin-spec : {M : Type 1} → statement M
 begin-spec =
     tie.close
     (tie.spec
-    drop-message-requires
-    same-length
+    dropped-requires
     returns
     store-requires
     cast-opened
     opened-requires
-    same-length-2
+    same-length
     returns-2)

@@ -9,14 +9,14 @@ use borrow.Author.Tests.{le-leb, eq-eqb, ne-eqb, eqb-true, eqb-false, ltb-false}
 use lib.Dec.{eqb, ltb, leb}
 use lib.ListN.{length, getD, take, drop, length-drop}
 use lib.Seq.{sets, take-all, drop-drop, getD-drop}
-use Rattle.laws.specs.Bools.{clash, decide, not-false, or-left, or-right, and-true, cond-true, cond-false}
+use Rattle.laws.specs.Bools.{on-cond, clash, decide, not-false, or-left, or-right, and-true, cond-true, cond-false}
 use Rattle.rules.specs.House.{maxPayload}
 use Rattle.rules.specs.Event.{be4}
 use Rattle.rules.specs.Telegram.{begins, continues, joinTo, malformed, telLenOf, telIdOf}
 use Rattle.rules.specs.Telegram as rules
 use Rattle.transport.specs.declared.reassembly.Joined.{Joined}
 use Rattle.transport.specs.declared.reassembly.Reassembly.{Reassembly}
-use Rattle.transport.specs.Answers.{joiningOf, Joins}
+use Rattle.transport.specs.Answers.{joinAnswer, joiningOf, Joins}
 use Rattle.transport.specs.declared.reassembly.JoinAnswer.the-variants as joins
 
 -- the same outcome by another name
@@ -122,3 +122,28 @@ module _ (l : ℕ) (t : List ℕ) (h : malformed l t ≡ false) where
           clash (and-true (eqb (telLenOf t) 0 && leb 1 (telIdOf t)) (leb (telIdOf t) 3) (and-true (eqb (telLenOf t) 0) (leb 1 (telIdOf t)) e (le-leb 1 (telIdOf t) (positive (telIdOf t) j))) (le-leb (telIdOf t) 3 i))
           (or-right (short || wrong || ltb l (telLenOf t)) (eqb (telLenOf t) 0 && leb 1 (telIdOf t) && leb (telIdOf t) 3) h)
       go (inr e) = omega (arith, long, positive (telLenOf t) (eqb-false (telLenOf t) 0 e))
+
+-- Behind 10, 13, 14 and 15 nothing is refused but by 16.
+module _ (n : ℕ) where
+  Only16 : rules.Joined → Type 0
+  Only16 j = joinAnswer (j .answer) ≡ joins.Refused n → n ≡ 16
+
+  only-begins : (m c : ℕ) (part b : List ℕ) → Only16 (begins m c part b)
+  unfolding Only16 begins rules.dropped
+  only-begins m c part b = on-cond Only16 (eqb c 0) _ _ (λ t e. let z : _≡_ {A = ℕ} 0 1 = cc in absurd (omega arith)) (λ t e. cc)
+
+  taken : (last : Bool) (m k : ℕ) → joinAnswer (cond last (rules.complete m k) rules.stillOpen) ≡ joins.Refused n → n ≡ 16
+  taken true m k e = let z : _≡_ {A = ℕ} 0 1 = cc in absurd (omega arith)
+  taken false m k e = let z : _≡_ {A = ℕ} 0 1 = cc in absurd (omega arith)
+
+  only-continues : (last : Bool) (s : rules.Joining) (m c : ℕ) (part b : List ℕ) → Only16 (continues last s m c part b)
+  unfolding Only16 continues rules.dropped
+  only-continues last rules.idle m c part b = λ e. cc
+  only-continues last (rules.opened m₁ c₁ n₁) m c part b =
+      on-cond Only16 (eqb m m₁ && eqb c c₁ && leb (n₁ + length part) maxPayload) _ _ (λ t. taken last m₁ (n₁ + length part)) (λ t e. cc)
+
+  pub only-16 : (id : ℕ) (s : rules.Joining) (m : ℕ) (body b : List ℕ) → joinAnswer (joinTo id s m body b .answer) ≡ joins.Refused n → n ≡ 16
+  unfolding Only16 joinTo
+  only-16 id s m body b =
+      on-cond Only16 (eqb id 0) _ _ (λ t e. let z : _≡_ {A = ℕ} 0 1 = cc in absurd (omega arith))
+      (λ t. on-cond Only16 (eqb id 1) _ _ (λ u. only-begins m (getD body 0 0) (drop 1 body) b) (λ u. only-continues (eqb id 3) s m (getD body 0 0) (drop 1 body) b))

@@ -1,7 +1,7 @@
 // Reassembly: telegrams joined, one at a time, to the message that they were cut from.
 ghost use mathlib.Core.Bool.{false};
 ghost use mathlib.Core.Path.{_≡_};
-ghost use Prim.Native.Nat.{_+_, _≤_, _<_};
+ghost use Prim.Native.Nat.{ℕ, _+_, _≤_, _<_};
 ghost use lib.Dec.{eqb};
 ghost use lib.ListN.{length, drop};
 ghost use Rattle.rules.specs.House.{maxSize, maxPayload};
@@ -199,9 +199,10 @@ impl Reassembly {
         self.go_on(tel_id == TEL_ID_FINAL, msg_id, counter, buffer, part)
     }
 
-    // Takes one telegram into `buffer`, which holds the message from its start on.
+    // Takes one telegram into `buffer`, which holds the message from its start on. 10, 13, 14 and 15 hand back the very state that came in.
     pub fn join(self, l: usize, buffer: &mut [u8], telegram: &[u8]) -> Joined
         ensures { λ r. ⌜ Joins (join l (joiningOf self) (now (buffer .entry)) (now (telegram .entry))) r (now (buffer .exit)) ⌝ }
+        ensures kept { λ r. ⌜ ((n : ℕ) → r .answer ≡ JoinAnswer.Refused n → (n ≡ 16 → ⊥) → r .state ≡ self) ⌝ }
     {
         if limits::illegal(l) {
             return self.refused(ILLEGAL_SIZE);

@@ -147,7 +147,7 @@ module _ (size msgId : ℕ) (payload : List ℕ) where
   unfolding partOf
   part-last q l = rw (length-take, length-drop) (omega arith)
 
-  telegram-at : (j : ℕ) → size < length payload
+  pub telegram-at : (j : ℕ) → size < length payload
       → telegramOf size msgId payload (suc j) ≡ telegram msgId (telIdFor (countOf size (length payload)) (suc j)) (j % 256 ∷ partOf size payload j)
   unfolding telegramOf
   telegram-at j h = let e : suc j - 1 ≡ j = omega arith in cond-false _ _ (lt-leb (length payload) size h) ∙ rw e refl

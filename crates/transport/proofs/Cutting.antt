@@ -5,7 +5,7 @@ use mathlib.Core.Bool.{true, false, cond, not, _||_}
 use mathlib.Core.List.{List, _∷_, _++_}
 use mathlib.Core.Logic.{_⊎_, inl, inr}
 use native.Mathlib.Omega.{arith}
-use native.Mathlib.Nat.{div-lt-iff-lt-mul, le-div-iff-mul-le, mul-le-mul-left}
+use native.Mathlib.Nat.{div-lt-iff-lt-mul, le-div-iff-mul-le, mul-le-mul-left, pos-of-ne-zero}
 use borrow.Author.Tests.{eqb-true, eqb-false, leb-true, leb-false, lt-ltb, le-ltb, lt-leb, eq-eqb, ne-eqb}
 use lib.Dec.{eqb, leb, ltb}
 use lib.ListN.{length, take, drop, set, length-take, length-drop}
@@ -15,12 +15,12 @@ use Rattle.rules.specs.House.{minSize, maxPayload}
 use Rattle.rules.specs.Picture.{legalSize}
 use Rattle.rules.specs.Telegram.{countOf, telIdFor, partOf, telegram, telegramOf, headBytes, Cut, cut, uncut, cutTo, cutBytes}
 use Rattle.rules.specs.Event.{two, four}
-use Rattle.rules.proofs.RoundTrip.{size-range, telegram-length, telegram-one, count-one}
+use Rattle.rules.proofs.RoundTrip.{size-range, telegram-length, telegram-at, telegram-one, count-one, cuts as cuts-are}
 use Rattle.transport.specs.Parts.{partId}
 use Rattle.transport.specs.Answers.{cutAnswer, Cuts}
 use Rattle.transport.specs.declared.segmentation.CutAnswer.the-variants as cuts
 
--- the four answers of cutting, each by its test
+-- the refusals of cutting, each by its test
 module _ (l m : ℕ) (payload : List ℕ) (k room : ℕ) where
   pub at-10 : not (legalSize l) ≡ true → cut l m payload k room ≡ uncut 10
   unfolding cut
@@ -38,11 +38,6 @@ module _ (l m : ℕ) (payload : List ℕ) (legal : legalSize l ≡ true) (short 
   pub at-13 : (eqb k 0 || ltb (countOf l (length payload)) k) ≡ false → room < length (telegramOf l m payload k) → cut l m payload k room ≡ uncut 13
   unfolding cut
   at-13 e h = cond-false _ _ (ap not legal) ∙ cond-false _ _ (le-ltb maxPayload (length payload) short) ∙ cond-false _ _ e ∙ cond-true _ _ (lt-ltb room _ h)
-
-  pub at-end : (eqb k 0 || ltb (countOf l (length payload)) k) ≡ false → length (telegramOf l m payload k) ≤ room
-      → cut l m payload k room ≡ cutTo (telegramOf l m payload k)
-  unfolding cut
-  at-end e h = cond-false _ _ (ap not legal) ∙ cond-false _ _ (le-ltb maxPayload (length payload) short) ∙ cond-false _ _ e ∙ cond-false _ _ (le-ltb room _ h)
 
 -- a payload up to L
 module _ (l m : ℕ) (payload : List ℕ) (legal : legalSize l ≡ true) (h : length payload ≤ l) (k room : ℕ) where
@@ -71,7 +66,7 @@ module _ (l m : ℕ) (payload : List ℕ) (legal : legalSize l ≡ true) (h : le
     single-13 f = at-13 l m payload legal short k room only (omega (arith, single-length))
 
     pub single-cut : 6 + length payload ≤ room → cut l m payload k room ≡ cutTo (telegram m 0 payload)
-    single-cut f = at-end l m payload legal short k room only (omega (arith, single-length)) ∙ ap cutTo single-bytes
+    single-cut f = cuts-are l m payload legal short .cuts k room (omega arith) (omega (arith, count-one l m payload h)) (omega (arith, single-length)) ∙ ap cutTo single-bytes
 
 -- a longer one: `before` telegrams stand in front of telegram k
 module _ (l n k before : ℕ) (low : minSize ≤ l) (h : l < n) (e : k ≡ suc before) where
@@ -137,11 +132,11 @@ module _ (l m : ℕ) (payload : List ℕ) (k before size : ℕ) (low : minSize �
           take-all (l - 1) (drop (before * (l - 1)) payload) (omega arith) ∙ sym (take-all size (drop (before * (l - 1)) payload) (omega arith))
 
   pub part-telegram : telegramOf l m payload k ≡ telegram m (partId before (length payload - before * (l - 1)) (l - 1)) (before % 256 ∷ take size (drop (before * (l - 1)) payload))
-  unfolding telegramOf partOf
+  unfolding partOf
   part-telegram =
-      let d : k - 1 ≡ before = omega arith in
-      cond-false _ _ (lt-leb (length payload) l h)
-      ∙ (λ i. telegram m (part-id l (length payload) k before low h e f i) (d i % 256 ∷ take (l - 1) (drop (d i * (l - 1)) payload)))
+      ap (telegramOf l m payload) e
+      ∙ telegram-at l m payload before h
+      ∙ ap (λ (id : ℕ). telegram m id (before % 256 ∷ partOf l payload before)) (ap (telIdFor (countOf l (length payload))) (sym e) ∙ part-id l (length payload) k before low h e f)
       ∙ ap (λ (b : List ℕ). telegram m (partId before (length payload - before * (l - 1)) (l - 1)) (before % 256 ∷ b)) part
 
   pub part-length : length (take size (drop (before * (l - 1)) payload)) ≡ size
@@ -184,11 +179,7 @@ module _ (l m : ℕ) (payload : List ℕ) (legal : legalSize l ≡ true) (h : l 
 
   module _ (some : k ≡ 0 → ⊥) where
     behind : k ≡ suc (k - 1)
-    behind = go k some
-      where
-        go : (k : ℕ) → (k ≡ 0 → ⊥) → k ≡ suc (k - 1)
-        go zero f = absurd (f refl)
-        go (suc k) f = omega arith
+    behind = omega (arith, pos-of-ne-zero some)
 
     pub part-12 : length payload ≤ (k - 1) * (l - 1) → cut l m payload k room ≡ uncut 12
     part-12 f = at-12 l m payload legal short k room (no-such l (length payload) k (k - 1) low h behind f)
@@ -215,7 +206,8 @@ module _ (l m : ℕ) (payload : List ℕ) (legal : legalSize l ≡ true) (h : l 
           → b₁ ≡ sets b 0 (four m ++ headBytes id (1 + size)) → b₂ ≡ sets (set b₁ 6 counter) 7 part
           → Cuts (cut l m payload k room) b (cuts.Length (7 + size)) b₂
       part-cuts b b₁ b₂ g i c p e₁ e₂ =
-          written b _ b₂ (7 + size) (at-end l m payload legal short k room this (omega (arith, part-long)) ∙ ap cutTo part-bytes)
+          written b _ b₂ (7 + size)
+          (cuts-are l m payload legal short .cuts k room (pos-of-ne-zero some) (within l (length payload) k (k - 1) low h behind f) (omega (arith, part-long)) ∙ ap cutTo part-bytes)
           (sym (sym (ap length part-bytes) ∙ part-long))
           (stored-part m size b b₁ b₂ i c p part-size e₁ e₂)
 

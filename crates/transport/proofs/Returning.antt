@@ -13,6 +13,7 @@ use Rattle.rules.specs.Telegram.{countOf, telegramOf, telegrams, join, joinAll,
 use Rattle.rules.proofs.RoundTrip.{roundTrip}
 use Rattle.rules.specs.Telegram as rules
 use Rattle.transport.specs.declared.reassembly.Joined.{Joined}
+use Rattle.transport.specs.declared.reassembly.Reassembly.{Reassembly}
 use Rattle.transport.specs.Answers.{joinAnswer, joiningOf, Joins}
 use Rattle.transport.specs.declared.reassembly.JoinAnswer.the-variants as joins
 
@@ -34,7 +35,7 @@ module _ (l m : ℕ) (payload lent : List ℕ) where
       let e : suc (countOf l (length payload) - 1) ≡ countOf l (length payload) = omega arith in
       record { gives = ap (λ (n : ℕ). joinAll l s lent (map (telegramOf l m payload) (upFrom 1 n))) e ∙ (λ i. record { answers = t .answers i; state = t .state i; buffer = t .buffer i }) }
 
-  module _ (count k : ℕ) (s : rules.Joining) (b : List ℕ) (o : Owed k (count - k) s b) {r : Joined} {after : List ℕ} (h : Joins (join l s b (telegramOf l m payload k)) r after) where
+  module _ (count k : ℕ) (s : rules.Joining) (b : List ℕ) (o : Owed k (count - k) s b) {came : Reassembly} {r : Joined} {after : List ℕ} (h : Joins came (join l s b (telegramOf l m payload k)) r after) where
     -- one telegram more, with others behind it
     pub owed-on : k < count → Owed (k + 1) (count - (k + 1)) (joiningOf (r .state)) after
     unfolding from upFrom joinAll

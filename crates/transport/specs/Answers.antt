@@ -72,8 +72,20 @@ joinAnswer (rules.complete m n) = joins.Complete m n
 unfoldable pub joiningOf : Reassembly → rules.Joining
 joiningOf s = cond (eqb (s .open) 0) rules.idle (rules.opened (s .«msg_id») (s .counter) (s .length))
 
--- What joining does: the answer, the next state, and the lent buffer afterwards.
-pub record Joins (j : rules.Joined) (r : Joined) (after : List ℕ) : Type 0 where
+-- the numbers that the box writes for a message: no stale ones where none is open
+unfoldable pub stateOf : rules.Joining → Reassembly
+stateOf rules.idle = record { «open» = 0; «msg_id» = 0; counter = 0; length = 0 }
+stateOf (rules.opened m c n) = record { «open» = 1; «msg_id» = m; counter = c; length = n }
+
+-- the state handed back: after 10, 13, 14 and 15 the very one that came in
+unfoldable pub handedBack : rules.Join → (came : Reassembly) → rules.Joining → Reassembly
+handedBack (rules.unjoined n) came j = cond (eqb n 16) (stateOf j) came
+handedBack rules.stillOpen came j = stateOf j
+handedBack (rules.complete m n) came j = stateOf j
+
+-- What joining does with a state: the answer, the message that the next state stands for and its very numbers, and the lent buffer afterwards.
+pub record Joins (came : Reassembly) (j : rules.Joined) (r : Joined) (after : List ℕ) : Type 0 where
   pub answered : r .answer ≡ joinAnswer (j .answer)
   pub next : joiningOf (r .state) ≡ j .state
+  pub numbers : r .state ≡ handedBack (j .answer) came (j .state)
   pub buffer : after ≡ j .buffer

@@ -1,13 +1,11 @@
 // Reassembly: telegrams joined, one at a time, to the message that they were cut from.
-ghost use mathlib.Core.Bool.{false};
 ghost use mathlib.Core.Path.{_≡_};
-ghost use Prim.Native.Nat.{ℕ, _+_, _≤_, _<_};
-ghost use lib.Dec.{eqb};
+ghost use Prim.Native.Nat.{_+_, _≤_};
 ghost use lib.ListN.{length, drop};
 ghost use Rattle.rules.specs.House.{maxSize, maxPayload};
 ghost use Rattle.rules.specs.Event.{be4};
-ghost use Rattle.rules.specs.Telegram.{idle, opened, begins, continues, joinTo, telIdOf, malformed, join};
-ghost use Rattle.transport.specs.Answers.{joinNumberOf, joinMsgIdOf, joinLengthOf, joiningOf, Joins};
+ghost use Rattle.rules.specs.Telegram.{idle, opened, begins, continues, joinTo, join};
+ghost use Rattle.transport.specs.Answers.{joinNumberOf, joinMsgIdOf, joinLengthOf, joiningOf, stateOf, Joins};
 use super::limits;
 use super::limits::ILLEGAL_SIZE;
 use super::limits::MAX_PAYLOAD;
@@ -84,9 +82,9 @@ impl JoinAnswer {
 }
 
 impl Reassembly {
-    // No message is open.
+    // No message is open: four zeros.
     pub fn fresh() -> Self
-        ensures { λ r. ⌜ joiningOf r ≡ idle ⌝ }
+        ensures { λ r. ⌜ (joiningOf r ≡ idle) × (r ≡ stateOf idle) ⌝ }
     {
         Reassembly {
             open: 0,
@@ -96,8 +94,9 @@ impl Reassembly {
         }
     }
 
+    // A message is open.
     fn opened(msg_id: u32, counter: u32, length: u32) -> Self
-        ensures { λ r. ⌜ joiningOf r ≡ opened «msg_id» counter length ⌝ }
+        ensures { λ r. ⌜ (joiningOf r ≡ opened «msg_id» counter length) × (r ≡ stateOf (opened «msg_id» counter length)) ⌝ }
     {
         Reassembly {
             open: 1,
@@ -118,17 +117,17 @@ impl Reassembly {
     }
 
     // 16 drops it.
-    fn dropped(mut self) -> Joined
-        ensures { λ r. ⌜ (r .answer ≡ JoinAnswer.Refused 16) × (joiningOf (r .state) ≡ idle) ⌝ }
+    fn dropped(self) -> Joined
+        ensures { λ r. ⌜ (r .answer ≡ JoinAnswer.Refused 16) × (joiningOf (r .state) ≡ idle) × (r .state ≡ stateOf idle) ⌝ }
     {
-        self.open = 0;
-        self.refused(OUT_OF_SEQUENCE)
+        let none = Reassembly::fresh();
+        none.refused(OUT_OF_SEQUENCE)
     }
 
     // TelID 1: the first part of a message.
     fn begin(self, msg_id: u32, counter: u8, buffer: &mut [u8], part: &[u8]) -> Joined
         requires { ⌜ (maxPayload ≤ length (now buffer)) × (length (now part) ≤ maxSize) ⌝ }
-        ensures { λ r. ⌜ Joins (begins «msg_id» counter (now (part .entry)) (now (buffer .entry))) r (now (buffer .exit)) ⌝ }
+        ensures { λ r. ⌜ Joins self (begins «msg_id» counter (now (part .entry)) (now (buffer .entry))) r (now (buffer .exit)) ⌝ }
     {
         if counter != 0 {
             return self.dropped();
@@ -143,7 +142,7 @@ impl Reassembly {
     // TelID 2 and 3: a part of the open message, the last one where `last` says so.
     fn go_on(self, last: bool, msg_id: u32, counter: u8, buffer: &mut [u8], part: &[u8]) -> Joined
         requires { ⌜ (maxPayload ≤ length (now buffer)) × (length (now part) ≤ maxSize) ⌝ }
-        ensures { λ r. ⌜ Joins (continues last (joiningOf self) «msg_id» counter (now (part .entry)) (now (buffer .entry))) r (now (buffer .exit)) ⌝ }
+        ensures { λ r. ⌜ Joins self (continues last (joiningOf self) «msg_id» counter (now (part .entry)) (now (buffer .entry))) r (now (buffer .exit)) ⌝ }
     {
         if self.open == 0 {
             return self.dropped();
@@ -178,7 +177,7 @@ impl Reassembly {
     // A well-formed telegram with a TelID up to 3.
     fn take(self, tel_id: u32, buffer: &mut [u8], telegram: &[u8]) -> Joined
         requires { ⌜ (maxPayload ≤ length (now buffer)) × (6 ≤ length (now telegram)) × (length (now telegram) ≤ 6 + maxSize) × ((«tel_id» ≡ 0 → ⊥) → 7 ≤ length (now telegram)) ⌝ }
-        ensures { λ r. ⌜ Joins (joinTo «tel_id» (joiningOf self) (be4 (now (telegram .entry)) 0) (drop 6 (now (telegram .entry))) (now (buffer .entry))) r (now (buffer .exit)) ⌝ }
+        ensures { λ r. ⌜ Joins self (joinTo «tel_id» (joiningOf self) (be4 (now (telegram .entry)) 0) (drop 6 (now (telegram .entry))) (now (buffer .entry))) r (now (buffer .exit)) ⌝ }
     {
         let msg_id = telegram::msg_id(telegram);
         if tel_id == TEL_ID_SINGLE {
@@ -199,10 +198,9 @@ impl Reassembly {
         self.go_on(tel_id == TEL_ID_FINAL, msg_id, counter, buffer, part)
     }
 
-    // Takes one telegram into `buffer`, which holds the message from its start on. 10, 13, 14 and 15 hand back the very state that came in.
+    // Takes one telegram into `buffer`, which holds the message from its start on, or 10, 13, 14, 15 or 16, which leave `buffer` as it is.
     pub fn join(self, l: usize, buffer: &mut [u8], telegram: &[u8]) -> Joined
-        ensures { λ r. ⌜ Joins (join l (joiningOf self) (now (buffer .entry)) (now (telegram .entry))) r (now (buffer .exit)) ⌝ }
-        ensures kept { λ r. ⌜ ((n : ℕ) → r .answer ≡ JoinAnswer.Refused n → (n ≡ 16 → ⊥) → r .state ≡ self) ⌝ }
+        ensures { λ r. ⌜ Joins self (join l (joiningOf self) (now (buffer .entry)) (now (telegram .entry))) r (now (buffer .exit)) ⌝ }
     {
         if limits::illegal(l) {
             return self.refused(ILLEGAL_SIZE);

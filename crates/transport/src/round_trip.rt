@@ -11,15 +11,17 @@ ghost use Rattle.transport.specs.Back.{back};
 use super::limits;
 use super::limits::ILLEGAL_SIZE;
 use super::limits::MAX_PAYLOAD;
+use super::limits::MAX_SIZE;
 use super::limits::PAYLOAD_TOO_LONG;
 use super::limits::ROOM_TOO_SHORT;
 use super::reassembly::JoinAnswer;
 use super::reassembly::Joined;
 use super::reassembly::Reassembly;
 use super::segmentation;
+use super::telegram::HEAD;
 
-// The longest telegram: a head and 45 bytes.
-const LONGEST: usize = 51;
+// The longest telegram.
+const LONGEST: usize = HEAD + MAX_SIZE;
 
 // Telegram `number` of a message, cut and then given to `join`.
 fn pass_on(
@@ -31,7 +33,7 @@ fn pass_on(
     buffer: &mut [u8],
 ) -> Joined
     requires { ⌜ (legalSize l ≡ true) × (length (now payload) ≤ maxPayload) × (1 ≤ number) × (number ≤ countOf l (length (now payload))) ⌝ }
-    ensures { λ r. ⌜ Joins (join l (joiningOf state) (now (buffer .entry)) (telegramOf l «msg_id» (now (payload .entry)) number)) r (now (buffer .exit)) ⌝ }
+    ensures { λ r. ⌜ Joins state (join l (joiningOf state) (now (buffer .entry)) (telegramOf l «msg_id» (now (payload .entry)) number)) r (now (buffer .exit)) ⌝ }
 {
     let mut telegram = [0u8; LONGEST];
     let length = segmentation::cut(l, msg_id, payload, number, &mut telegram).length();

@@ -120,6 +120,7 @@ fn cut_single(l: usize, msg_id: u32, payload: &[u8], number: usize, buffer: &mut
     CutAnswer::Length(HEAD + n)
 }
 
+// The smaller of two numbers.
 fn smaller(a: usize, b: usize) -> usize
     ensures { λ r. ⌜ r ≡ min a b ⌝ }
 {
@@ -151,6 +152,7 @@ fn cut_part(l: usize, msg_id: u32, payload: &[u8], number: usize, buffer: &mut [
     if number == 0 {
         return CutAnswer::Refused(NO_SUCH_TELEGRAM);
     }
+    // There are no more telegrams than bytes, and the product below fits.
     if n < number {
         return CutAnswer::Refused(NO_SUCH_TELEGRAM);
     }

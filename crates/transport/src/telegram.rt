@@ -11,7 +11,7 @@ ghost use Rattle.rules.specs.Telegram.{headBytes, telIdOf, telLenOf, malformed}
 pub(crate) const HEAD: usize = 6;
 
 // Where the counter byte stands in a telegram of several.
-pub(crate) const COUNTER: usize = 6;
+pub(crate) const COUNTER: usize = HEAD;
 
 pub(crate) const TEL_ID_SINGLE: u32 = 0;
 
@@ -69,6 +69,7 @@ fn word(high: u8, low: u8) -> u32
     (high as u32) << 8 | low as u32
 }
 
+// The MsgID of a telegram.
 pub(crate) fn msg_id(telegram: &[u8]) -> u32
     requires { ⌜ 6 ≤ length (now telegram) ⌝ }
     ensures { λ r. ⌜ r ≡ be4 (now (telegram .entry)) 0 ⌝ }
@@ -78,6 +79,7 @@ pub(crate) fn msg_id(telegram: &[u8]) -> u32
     high << 16 | low
 }
 
+// The TelID of a telegram.
 pub(crate) fn tel_id(telegram: &[u8]) -> u32
     requires { ⌜ 6 ≤ length (now telegram) ⌝ }
     ensures { λ r. ⌜ r ≡ telIdOf (now (telegram .entry)) ⌝ }
@@ -85,6 +87,7 @@ pub(crate) fn tel_id(telegram: &[u8]) -> u32
     (telegram[4] >> 4) as u32
 }
 
+// The TelLen of a telegram.
 pub(crate) fn tel_len(telegram: &[u8]) -> usize
     requires { ⌜ 6 ≤ length (now telegram) ⌝ }
     ensures { λ r. ⌜ (r ≡ telLenOf (now (telegram .entry))) × (r < 4096) ⌝ }

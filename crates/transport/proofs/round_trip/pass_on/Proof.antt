@@ -53,7 +53,7 @@ returns c =
     let start = at-cut .before .before .before .before in
     let a = start .args in
     let p = start .pre in
-    along (ap (join (a .l) (joiningOf (a .state)) (a .buffer .now)) (sym (ap (λ (n : ℕ). take n (at-cut .cut .last .1 .1 .1 .1 .0)) (at-length .length .ensures) ∙ read-back (a .l) (a .msg-id) (a .payload .now) (a .number) (p .0) (p .1) (p .2) (p .3) refl (at-cut .cut .ensures)))) (at-join .join .ensures .0)
+    along (ap (join (a .l) (joiningOf (a .state)) (a .buffer .now)) (sym (ap (λ (n : ℕ). take n (at-cut .cut .last .1 .1 .1 .1 .0)) (at-length .length .ensures) ∙ read-back (a .l) (a .msg-id) (a .payload .now) (a .number) (p .0) (p .1) (p .2) (p .3) refl (at-cut .cut .ensures)))) (at-join .join .ensures)
 
 pub pass-on-spec : {M : Type 1} → statement M
 pass-on-spec =

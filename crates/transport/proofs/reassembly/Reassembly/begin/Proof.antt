@@ -3,6 +3,7 @@ use mathlib.Core.Path.{refl}
 use borrow.Author.Tests.{eq-eqb, ne-eqb}
 use borrow.Author.Needs.{needs}
 use Rattle.rules.specs.Telegram.{begins}
+use Rattle.transport.specs.Answers.{handedBack}
 use Rattle.transport.proofs.Joining.{drops}
 use Rattle.transport.proofs.reassembly.Reassembly.begin.Statement.{statement}
 use Rattle.transport.proofs.reassembly.Reassembly.begin.Tie as tie
@@ -15,7 +16,7 @@ unfolding begins
 returns c =
     let at-if1 = c .before in
     let start = at-if1 .before .before .before in
-    drops (start .args .buffer .now) (simp (ne-eqb _ _ (at-if1 .if1 .taken))) (c .dropped .ensures .0) (c .dropped .ensures .1)
+    drops (start .args .buffer .now) (simp (ne-eqb _ _ (at-if1 .if1 .taken))) (c .dropped .ensures)
 
 store-requires : tie.Need-store-requires
 store-requires c κs = search needs
@@ -30,11 +31,11 @@ same-length : tie.Need-same-length
 same-length c = search needs
 
 returns-2 : tie.Need-returns-2
-unfolding begins
+unfolding begins handedBack
 returns-2 c =
     let at-store = c .before .before .before in
     let at-if1 = at-store .before .before in
-    simp (eq-eqb _ _ (at-if1 .if1 .left)) (record { answered = refl; next = c .opened .ensures; buffer = at-store .store .ensures })
+    simp (eq-eqb _ _ (at-if1 .if1 .left)) (record { answered = refl; next = c .opened .ensures .0; numbers = c .opened .ensures .1; buffer = at-store .store .ensures })
 
 pub begin-spec : {M : Type 1} → statement M
 begin-spec =

@@ -1,16 +1,18 @@
--- A dropped message is no longer open.
-use mathlib.Core.Path.{ap}
+-- A dropped message leaves a fresh state.
+use mathlib.Core.Path.{ap, _∙_}
 use borrow.Author.Needs.{needs}
 use Rattle.transport.specs.Answers.{joiningOf}
 use Rattle.transport.proofs.reassembly.Reassembly.dropped.Statement.{statement}
 use Rattle.transport.proofs.reassembly.Reassembly.dropped.Tie as tie
 
+fresh-requires : tie.Need-fresh-requires
+fresh-requires c κs = search needs
+
 refused-requires : tie.Need-refused-requires
 refused-requires c κs = search needs
 
 returns : tie.Need-returns
-unfolding joiningOf
-returns c = (c .refused .ensures .0, ap joiningOf (c .refused .ensures .1))
+returns c = let r = c .refused .ensures in (r .0, ap joiningOf (r .1) ∙ c .before .fresh .ensures .0, r .1 ∙ c .before .fresh .ensures .1)
 
 pub dropped-spec : {M : Type 1} → statement M
-dropped-spec = tie.close (tie.spec refused-requires returns)
+dropped-spec = tie.close (tie.spec fresh-requires refused-requires returns)

@@ -1,12 +1,12 @@
 -- A fresh state has no open message.
 use mathlib.Core.Path.{refl}
-use Rattle.transport.specs.Answers.{joiningOf}
+use Rattle.transport.specs.Answers.{joiningOf, stateOf}
 use Rattle.transport.proofs.reassembly.Reassembly.fresh.Statement.{statement}
 use Rattle.transport.proofs.reassembly.Reassembly.fresh.Tie as tie
 
 returns : tie.Need-returns
-unfolding joiningOf
-returns c = refl
+unfolding joiningOf stateOf
+returns c = (refl, refl)
 
 pub fresh-spec : {M : Type 1} → statement M
 fresh-spec = tie.close (tie.spec returns)

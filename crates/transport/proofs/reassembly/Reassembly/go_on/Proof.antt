@@ -17,7 +17,7 @@ unfolding joiningOf continues
 returns c =
     let at-if1 = c .before in
     let start = at-if1 .before .before .before .before in
-    drops (start .args .buffer .now) (simp (eq-eqb _ _ (at-if1 .if1 .taken))) (c .dropped .ensures .0) (c .dropped .ensures .1)
+    drops (start .args .buffer .now) (simp (eq-eqb _ _ (at-if1 .if1 .taken))) (c .dropped .ensures)
 
 dropped-requires-2 : tie.Need-dropped-requires-2
 dropped-requires-2 c κs = search needs
@@ -28,7 +28,7 @@ returns-2 c =
     let at-if2 = c .before in
     let at-if1 = at-if2 .before .before in
     let start = at-if1 .before .before .before .before in
-    drops (start .args .buffer .now) (simp (ne-eqb _ _ (at-if1 .if1 .left), ne-eqb _ _ (at-if2 .if2 .taken))) (c .dropped2 .ensures .0) (c .dropped2 .ensures .1)
+    drops (start .args .buffer .now) (simp (ne-eqb _ _ (at-if1 .if1 .left), ne-eqb _ _ (at-if2 .if2 .taken))) (c .dropped2 .ensures)
 
 dropped-requires-3 : tie.Need-dropped-requires-3
 dropped-requires-3 c κs = search needs
@@ -40,7 +40,7 @@ returns-3 c =
     let at-if2 = at-if3 .before .before in
     let at-if1 = at-if2 .before .before in
     let start = at-if1 .before .before .before .before in
-    drops (start .args .buffer .now) (simp (ne-eqb _ _ (at-if1 .if1 .left), eq-eqb _ _ (at-if2 .if2 .left), ne-eqb _ _ (at-if3 .if3 .taken))) (c .dropped3 .ensures .0) (c .dropped3 .ensures .1)
+    drops (start .args .buffer .now) (simp (ne-eqb _ _ (at-if1 .if1 .left), eq-eqb _ _ (at-if2 .if2 .left), ne-eqb _ _ (at-if3 .if3 .taken))) (c .dropped3 .ensures)
 
 cast-at : tie.Need-cast-at
 cast-at c = search needs
@@ -59,7 +59,7 @@ returns-4 c =
     let at-if2 = at-if3 .before .before in
     let at-if1 = at-if2 .before .before in
     let start = at-if1 .before .before .before .before in
-    drops (start .args .buffer .now) (simp (ne-eqb _ _ (at-if1 .if1 .left), eq-eqb _ _ (at-if2 .if2 .left), eq-eqb _ _ (at-if3 .if3 .left), lt-leb _ _ (at-if4 .if4 .taken))) (c .dropped4 .ensures .0) (c .dropped4 .ensures .1)
+    drops (start .args .buffer .now) (simp (ne-eqb _ _ (at-if1 .if1 .left), eq-eqb _ _ (at-if2 .if2 .left), eq-eqb _ _ (at-if3 .if3 .left), lt-leb _ _ (at-if4 .if4 .taken))) (c .dropped4 .ensures)
 
 store-requires : tie.Need-store-requires
 store-requires c κs = search needs

@@ -1,14 +1,11 @@
 -- `join` refuses 10, 13, 14 and 15 in the rules' order, and leaves the rest to `take`.
-use mathlib.Core.Path.{sym, _∙_}
+use mathlib.Core.Path.{refl, sym, _∙_}
 use native.Mathlib.Omega.{arith}
 use borrow.Author.Tests.{lt-ltb, le-ltb, lt-leb, le-leb}
 use borrow.Author.Needs.{needs}
-use lib.ListN.{drop}
-use Rattle.rules.specs.Event.{be4}
 use Rattle.rules.specs.Telegram.{join}
-use Rattle.transport.specs.Answers.{joiningOf}
 use Rattle.transport.proofs.Legal.{legal, range}
-use Rattle.transport.proofs.Joining.{along, keeps, has-head, at-most, has-counter, only-16}
+use Rattle.transport.proofs.Joining.{along, keeps, has-head, at-most, has-counter}
 use Rattle.transport.proofs.reassembly.Reassembly.join.Statement.{statement}
 use Rattle.transport.proofs.reassembly.Reassembly.join.Tie as tie
 
@@ -25,7 +22,7 @@ returns c =
     let at-illegal = at-if1 .before in
     let start = at-illegal .before .before .before in
     let a = start .args in
-    (keeps (a .self) (a .buffer .now) 10 (simp (sym (at-illegal .illegal .ensures) ∙ at-if1 .if1 .taken)) (c .refused .ensures .0) (c .refused .ensures .1), λ n e d. c .refused .ensures .1)
+    keeps (a .self) (a .buffer .now) 10 refl (simp (sym (at-illegal .illegal .ensures) ∙ at-if1 .if1 .taken)) (c .refused .ensures)
 
 refused-requires-2 : tie.Need-refused-requires-2
 refused-requires-2 c κs = search needs
@@ -38,7 +35,7 @@ returns-2 c =
     let at-illegal = at-if1 .before in
     let start = at-illegal .before .before .before in
     let a = start .args in
-    (keeps (a .self) (a .buffer .now) 13 (simp (legal _ (at-illegal .illegal .ensures) (at-if1 .if1 .left), lt-ltb _ _ (at-if2 .if2 .taken))) (c .refused2 .ensures .0) (c .refused2 .ensures .1), λ n e d. c .refused2 .ensures .1)
+    keeps (a .self) (a .buffer .now) 13 refl (simp (legal _ (at-illegal .illegal .ensures) (at-if1 .if1 .left), lt-ltb _ _ (at-if2 .if2 .taken))) (c .refused2 .ensures)
 
 malformed-requires : tie.Need-malformed-requires
 malformed-requires c κs = search needs
@@ -56,7 +53,7 @@ returns-3 c =
     let at-illegal = at-if1 .before in
     let start = at-illegal .before .before .before in
     let a = start .args in
-    (keeps (a .self) (a .buffer .now) 14 (simp (legal _ (at-illegal .illegal .ensures) (at-if1 .if1 .left), le-ltb _ _ (at-if2 .if2 .left), sym (at-malformed .malformed .ensures) ∙ at-if3 .if3 .taken)) (c .refused3 .ensures .0) (c .refused3 .ensures .1), λ n e d. c .refused3 .ensures .1)
+    keeps (a .self) (a .buffer .now) 14 refl (simp (legal _ (at-illegal .illegal .ensures) (at-if1 .if1 .left), le-ltb _ _ (at-if2 .if2 .left), sym (at-malformed .malformed .ensures) ∙ at-if3 .if3 .taken)) (c .refused3 .ensures)
 
 tel-id-requires : tie.Need-tel-id-requires
 tel-id-requires c κs =
@@ -79,7 +76,7 @@ returns-4 c =
     let at-illegal = at-if1 .before in
     let start = at-illegal .before .before .before in
     let a = start .args in
-    (keeps (a .self) (a .buffer .now) 15 (simp (legal _ (at-illegal .illegal .ensures) (at-if1 .if1 .left), le-ltb _ _ (at-if2 .if2 .left), sym (at-malformed .malformed .ensures) ∙ at-if3 .if3 .left, sym (at-tel-id .tel-id .ensures), le-leb _ _ (at-if4 .if4 .taken))) (c .refused4 .ensures .0) (c .refused4 .ensures .1), λ n e d. c .refused4 .ensures .1)
+    keeps (a .self) (a .buffer .now) 15 refl (simp (legal _ (at-illegal .illegal .ensures) (at-if1 .if1 .left), le-ltb _ _ (at-if2 .if2 .left), sym (at-malformed .malformed .ensures) ∙ at-if3 .if3 .left, sym (at-tel-id .tel-id .ensures), le-leb _ _ (at-if4 .if4 .taken))) (c .refused4 .ensures)
 
 take-requires : tie.Need-take-requires
 take-requires c κs =
@@ -110,11 +107,7 @@ returns-5 c =
     let at-if2 = at-malformed .before in
     let at-if1 = at-if2 .before in
     let at-illegal = at-if1 .before in
-    let start = at-illegal .before .before .before in
-    let a = start .args in (
-      along (simp (legal _ (at-illegal .illegal .ensures) (at-if1 .if1 .left), le-ltb _ _ (at-if2 .if2 .left), sym (at-malformed .malformed .ensures) ∙ at-if3 .if3 .left, sym (at-tel-id .tel-id .ensures), lt-leb 4 (at-tel-id .tel-id .result) (omega (arith, at-if4 .if4 .left)))) (at-take .take .ensures),
-      λ n e d. absurd (d (only-16 n (at-tel-id .tel-id .result) (joiningOf (a .self)) (be4 (a .telegram .now) 0) (drop 6 (a .telegram .now)) (a .buffer .now) (sym (at-take .take .ensures .answered) ∙ e))),
-    )
+    along (simp (legal _ (at-illegal .illegal .ensures) (at-if1 .if1 .left), le-ltb _ _ (at-if2 .if2 .left), sym (at-malformed .malformed .ensures) ∙ at-if3 .if3 .left, sym (at-tel-id .tel-id .ensures), lt-leb 4 (at-tel-id .tel-id .result) (omega (arith, at-if4 .if4 .left)))) (at-take .take .ensures)
 
 pub join-spec : {M : Type 1} → statement M
 join-spec =

@@ -1,12 +1,12 @@
 -- An opened state has the message that it is made of.
 use mathlib.Core.Path.{refl}
-use Rattle.transport.specs.Answers.{joiningOf}
+use Rattle.transport.specs.Answers.{joiningOf, stateOf}
 use Rattle.transport.proofs.reassembly.Reassembly.opened.Statement.{statement}
 use Rattle.transport.proofs.reassembly.Reassembly.opened.Tie as tie
 
 returns : tie.Need-returns
-unfolding joiningOf
-returns c = refl
+unfolding joiningOf stateOf
+returns c = (refl, refl)
 
 pub opened-spec : {M : Type 1} → statement M
 opened-spec = tie.close (tie.spec returns)

@@ -4,3 +4,4 @@ pub mod Alls
 pub mod Sums
 pub mod Buffers
 pub mod Bits
+pub mod Views

@@ -1,0 +1,13 @@
+-- No pairs are kept where the count is 0.
+use Rattle.laws.specs.Views.{firsts}
+use Rattle.node.specs.View.{pairsFrom, rowOf}
+use mathlib.Core.Path.{refl}
+use Rattle.node.proofs.entry.NodeEntry.bare.Statement.{statement}
+use Rattle.node.proofs.entry.NodeEntry.bare.Tie as tie
+
+returns : tie.Need-returns
+unfolding rowOf pairsFrom firsts
+returns c = refl
+
+pub bare-spec : {M : Type 1} → statement M
+bare-spec = tie.close (tie.spec returns)

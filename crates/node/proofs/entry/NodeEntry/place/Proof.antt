@@ -1,0 +1,18 @@
+-- By the status's number.
+use Rattle.node.proofs.Marks.{by-mark, cond-same}
+use Rattle.node.specs.View.{rowOf}
+use Rattle.rules.specs.Renumber.{placeOf}
+use borrow.Author.Tests.{ne-eqb}
+use Rattle.node.proofs.entry.NodeEntry.place.Statement.{statement}
+use Rattle.node.proofs.entry.NodeEntry.place.Tie as tie
+
+returns : tie.Need-returns
+unfolding rowOf placeOf
+returns c = simp (by-mark placeOf, c .if1 .taken)
+
+returns-2 : tie.Need-returns-2
+unfolding rowOf placeOf
+returns-2 c = simp (by-mark placeOf, ne-eqb _ _ (c .if1 .left), cond-same)
+
+pub place-spec : {M : Type 1} → statement M
+place-spec = tie.close (tie.spec returns returns-2)

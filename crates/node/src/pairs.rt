@@ -1,0 +1,105 @@
+// Pairs of block and number (FBlockID, InstID), as many as a node keeps or announces.
+ghost use mathlib.Core.Path.{_≡_};
+ghost use mathlib.Core.Bool.{not};
+ghost use mathlib.Core.List.{List, [], _∷_, _++_};
+ghost use Prim.Native.Nat.{_+_, _≤_, _<_, min};
+ghost use Rattle.laws.specs.Lists.{select};
+ghost use Rattle.rules.specs.Picture.{Pair, samePair, holds};
+ghost use Rattle.rules.specs.Ending.{missing};
+ghost use Rattle.node.specs.View.{pairOf, pairsOf};
+
+// The most pairs that a node keeps or announces.
+pub const MAX_PAIRS: usize = 16;
+
+// The first `count` places hold pairs.
+pub struct Pairs {
+    pub count: usize,
+    pub blocks: [u8; 16],
+    pub numbers: [u8; 16],
+}
+
+// The two pairs are one.
+fn same(block: u8, number: u8, other_block: u8, other_number: u8) -> bool
+    ensures { λ r. ⌜ r ≡ samePair (pairOf block number) (pairOf «other_block» «other_number») ⌝ }
+{
+    if block == other_block {
+        return number == other_number;
+    }
+    false
+}
+
+impl Pairs {
+    pub fn none() -> Self
+        ensures { λ r. ⌜ (pairsOf r ≡ []) × (r .count ≡ 0) ⌝ }
+    {
+        Pairs {
+            count: 0,
+            blocks: [0u8; 16],
+            numbers: [0u8; 16],
+        }
+    }
+
+    // How many pairs there are.
+    pub fn len(self) -> usize
+        ensures { λ r. ⌜ r ≡ min (self .count) 16 ⌝ }
+    {
+        let n = self.count;
+        if n < MAX_PAIRS {
+            return n;
+        }
+        MAX_PAIRS
+    }
+
+    // The pair is one of these.
+    pub fn holds(self, block: u8, number: u8) -> bool
+        ensures { λ r. ⌜ r ≡ holds (pairsOf self) (pairOf block number) ⌝ }
+    {
+        let n = self.len();
+        let mut i = 0;
+        while i < n {
+            if same(block, number, self.blocks[i], self.numbers[i]) {
+                return true;
+            }
+            i += 1;
+        }
+        false
+    }
+
+    // These pairs, and one behind them.
+    pub fn with(mut self, block: u8, number: u8) -> Self
+        requires { ⌜ self .count < 16 ⌝ }
+        ensures { λ r. ⌜ (pairsOf r ≡ pairsOf self ++ pairOf block number ∷ []) × (r .count ≡ self .count + 1) ⌝ }
+    {
+        let n = self.count;
+        self.blocks[n] = block;
+        self.numbers[n] = number;
+        self.count = n + 1;
+        self
+    }
+
+    // These pairs, and one behind them unless `other` holds it.
+    fn with_missing(self, other: Pairs, block: u8, number: u8) -> Self
+        requires { ⌜ self .count < 16 ⌝ }
+        ensures { λ r. ⌜ (pairsOf r ≡ pairsOf self ++ missing (pairOf block number ∷ []) (pairsOf other)) × (r .count ≤ self .count + 1) ⌝ }
+    {
+        if other.holds(block, number) {
+            return self;
+        }
+        self.with(block, number)
+    }
+
+    // The pairs that `other` does not hold.
+    pub fn missing(self, other: Pairs) -> Pairs
+        ensures { λ r. ⌜ pairsOf r ≡ missing (pairsOf self) (pairsOf other) ⌝ }
+    {
+        let n = self.len();
+        let mut left = Pairs::none();
+        let mut i = 0;
+        while i < n {
+            let next = left.with_missing(other, self.blocks[i], self.numbers[i]);
+            left = next;
+            i += 1;
+        }
+        left
+    }
+}

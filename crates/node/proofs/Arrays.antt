@@ -5,13 +5,14 @@ use mathlib.Core.List.{List, [], _∷_, _++_, append-assoc, append-nil}
 use native.Mathlib.Nat.{not-suc-le-zero, le-of-suc-le-suc}
 use native.Mathlib.Omega.{arith}
 use lib.ListN.{length, getD, set, drop}
-use Rattle.laws.specs.Views.{firsts, firsts-here, firsts-past, firsts-push, firsts-min}
+use Rattle.laws.specs.Views.{firsts, firsts-length, firsts-here, firsts-past, firsts-at, firsts-set, firsts-push, firsts-min}
 use mathlib.Core.Bool.{Bool, true, false, cond, not}
 use Rattle.laws.specs.Lists.{select}
 use Rattle.rules.specs.Ending.{missing}
 use Rattle.rules.specs.Picture as rules
-use Rattle.rules.specs.Picture.{Pair}
-use Rattle.node.specs.View.{pairOf, zipPairs, pairsFrom}
+use Rattle.rules.specs.Picture.{Pair, Row}
+use Rattle.node.specs.declared.entry.NodeEntry.{NodeEntry}
+use Rattle.node.specs.View.{pairOf, zipPairs, pairsFrom, rowOf, rowsOf}
 
 pub zip-length : (n : ℕ) (bs ns : List ℕ) → length bs ≡ n → length ns ≡ n → length (zipPairs bs ns) ≡ n
 unfolding zipPairs
@@ -77,3 +78,25 @@ missing-on found next {ps} {rest} {a} qs e f h =
 pub missing-end : (found : List Pair) {ps : List Pair} (qs : List Pair) {whole : List Pair} → ps ≡ [] → found ++ missing ps qs ≡ whole → found ≡ whole
 unfolding missing select
 missing-end found qs e h = sym (append-nil found) ∙ sym (ap (λ (l : List Pair). found ++ missing l qs) e) ∙ h
+
+-- the rows of a ring: the row at i, and those behind it; none past the end
+module _ (es : List NodeEntry) (h : length es ≡ 63) where
+  pub rows-here : (k i : ℕ) (d : NodeEntry) → i < min k 63 → drop i (rowsOf k es) ≡ rowOf (getD es i d) ∷ drop (i + 1) (rowsOf k es)
+  unfolding rowsOf
+  rows-here k i d l = firsts-here rowOf k i d es (omega arith) (omega arith)
+
+  pub rows-past : (k i : ℕ) → min k 63 ≤ i → drop i (rowsOf k es) ≡ []
+  unfolding rowsOf
+  rows-past k i l = ap (drop i) (sym (firsts-min rowOf k 63 es (omega arith))) ∙ firsts-past rowOf (min k 63) i es l
+
+  pub rows-length : (k : ℕ) → length (rowsOf k es) ≡ min k 63
+  unfolding rowsOf
+  rows-length k = ap length (sym (firsts-min rowOf k 63 es (omega arith))) ∙ firsts-length rowOf (min k 63) es (omega arith)
+
+  pub rows-at : (k i : ℕ) (d : NodeEntry) (e : Row) → i < min k 63 → getD (rowsOf k es) i e ≡ rowOf (getD es i d)
+  unfolding rowsOf
+  rows-at k i d e l = firsts-at rowOf k i d e es (omega arith) (omega arith)
+
+pub rows-set : (k i : ℕ) (e : NodeEntry) (es : List NodeEntry) → rowsOf k (set es i e) ≡ set (rowsOf k es) i (rowOf e)
+unfolding rowsOf
+rows-set k i e es = firsts-set rowOf k i e es

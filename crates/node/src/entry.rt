@@ -1,7 +1,7 @@
 // The registry's entry of a node, and what happens to one entry.
 ghost use mathlib.Core.Path.{_≡_};
 ghost use mathlib.Core.List.{List, []};
-ghost use Prim.Native.Nat.{_≤_};
+ghost use Prim.Native.Nat.{min};
 ghost use Rattle.rules.specs.Picture.{Row, WAITING, isOpen, isSilent, isIgnored, keeps, keepsOther, bars, pairsIn, newRow};
 ghost use Rattle.rules.specs.Renumber.{placeOf, triesOf};
 ghost use Rattle.rules.specs.Step.{silenced, asked, ignored, counted, atLimit, emptied};
@@ -50,6 +50,16 @@ pub struct NodeEntry {
     pub count: u8,
     pub blocks: [u8; 16],
     pub numbers: [u8; 16],
+}
+
+// How many entries count: as many as are said, and no more than there are.
+pub fn clamp(count: usize) -> usize
+    ensures { λ r. ⌜ r ≡ min count 63 ⌝ }
+{
+    if count < MAX_ENTRIES {
+        return count;
+    }
+    MAX_ENTRIES
 }
 
 impl NodeEntry {

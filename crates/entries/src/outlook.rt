@@ -1,0 +1,68 @@
+// What the entries leave open: questions, and silent nodes.
+ghost use mathlib.Core.Path.{_≡_};
+ghost use mathlib.Core.Bool.{_||_};
+ghost use Rattle.laws.specs.Lists.{any};
+ghost use Rattle.rules.specs.Picture.{isOpen, isSilent};
+ghost use Rattle.node.specs.View.{rowOf, rowsOf};
+ghost use Rattle.entries.specs.Tests.{isShort};
+use node::entry::MAX_SILENCES;
+use node::entry::NodeEntry;
+
+// A question is open; a node is SILENT; a SILENT node counts fewer silences than the most.
+pub struct Outlook {
+    pub open: bool,
+    pub silent: bool,
+    pub short: bool,
+}
+
+// The node is SILENT and counts fewer silences than the most.
+fn is_short(entry: NodeEntry) -> bool
+    ensures { λ r. ⌜ r ≡ isShort (rowOf entry) ⌝ }
+{
+    if entry.is_silent() {
+        return entry.silences < MAX_SILENCES;
+    }
+    false
+}
+
+// One of the two.
+pub(crate) fn either(a: bool, b: bool) -> bool
+    ensures { λ r. ⌜ r ≡ a || b ⌝ }
+{
+    if a {
+        return true;
+    }
+    b
+}
+
+impl Outlook {
+    // The outlook with one entry more.
+    fn with(self, entry: NodeEntry) -> Outlook
+        ensures { λ r. ⌜ (r .open ≡ self .open || isOpen (rowOf entry)) × (r .silent ≡ self .silent || isSilent (rowOf entry)) × (r .short ≡ self .short || isShort (rowOf entry)) ⌝ }
+    {
+        Outlook {
+            open: either(self.open, entry.is_open()),
+            silent: either(self.silent, entry.is_silent()),
+            short: either(self.short, is_short(entry)),
+        }
+    }
+}
+
+// The outlook of the first `count` entries.
+pub fn outlook_of(count: usize, entries: [NodeEntry; 63]) -> Outlook
+    ensures { λ r. ⌜ (r .open ≡ any isOpen (rowsOf count entries)) × (r .silent ≡ any isSilent (rowsOf count entries)) × (r .short ≡ any isShort (rowsOf count entries)) ⌝ }
+{
+    let n = node::entry::clamp(count);
+    let mut seen = Outlook {
+        open: false,
+        silent: false,
+        short: false,
+    };
+    let mut i = 0;
+    while i < n {
+        let next = seen.with(entries[i]);
+        seen = next;
+        i += 1;
+    }
+    seen
+}

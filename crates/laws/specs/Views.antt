@@ -10,6 +10,7 @@ use native.Mathlib.Omega.{arith}
 use borrow.Author.Tests.{leb-true, leb-false}
 use lib.Dec.{leb}
 use lib.ListN.{length, getD, set, drop, take, replicate}
+use lib.Seq.{take-all}
 use Rattle.laws.specs.Lists.{any}
 use Rattle.laws.specs.Bools.{decide}
 
@@ -82,6 +83,17 @@ module _ {A B : Type 0} (v : A → B) where
 
   pub firsts-push : (k : ℕ) (a : A) (xs : List A) → k < length xs → firsts (k + 1) (set xs k a) ≡ firsts k xs ++ v a ∷ []
   firsts-push k a xs h = rw (add-one k) (push k a xs h)
+
+  -- the first of the first
+  pub take-firsts : (j k : ℕ) (xs : List A) → j ≤ k → take j (firsts k xs) ≡ firsts j xs
+  unfolding firsts
+  take-firsts zero k xs h = refl
+  take-firsts (suc j) zero xs h = absurd (not-suc-le-zero h)
+  take-firsts (suc j) (suc k) [] h = refl
+  take-firsts (suc j) (suc k) (x ∷ xs) h = ap (λ (l : List B). v x ∷ l) (take-firsts j k xs (le-of-suc-le-suc h))
+
+  pub take-past : (j k : ℕ) (xs : List A) → k ≤ j → take j (firsts k xs) ≡ firsts k xs
+  take-past j k xs h = take-all j (firsts k xs) (omega (arith, firsts-few k xs))
 
   -- more than all is all
   pub firsts-all : (k : ℕ) (xs : List A) → length xs ≤ k → firsts k xs ≡ map v xs

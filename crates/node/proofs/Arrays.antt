@@ -53,15 +53,29 @@ module _ (bs ns : List ℕ) (h : length bs ≡ 16) (k : length ns ≡ 16) where
   unfolding pairsFrom
   pairs-past c i l = ap (drop i) (sym (firsts-min (λ (a : Pair). a) c 16 (zipPairs bs ns) (omega (arith, zip-length 16 bs ns h k)))) ∙ firsts-past (λ (a : Pair). a) (min c 16) i (zipPairs bs ns) l
 
+  -- more than 16 are 16
+  pub pairs-min : (c : ℕ) → pairsFrom (min c 16) bs ns ≡ pairsFrom c bs ns
+  unfolding pairsFrom
+  pairs-min c = firsts-min (λ (a : Pair). a) c 16 (zipPairs bs ns) (omega (arith, zip-length 16 bs ns h k))
+
+  few-length : (c : ℕ) → c ≤ 16 → length (pairsFrom c bs ns) ≡ c
+  unfolding pairsFrom
+  few-length c l = firsts-length (λ (a : Pair). a) c (zipPairs bs ns) (omega (arith, zip-length 16 bs ns h k))
+
+  pub pairs-length : (c : ℕ) → length (pairsFrom c bs ns) ≡ min c 16
+  pairs-length c = ap length (sym (pairs-min c)) ∙ few-length (min c 16) (omega arith)
+
+  pub pairs-at : (c i : ℕ) (d : Pair) → i < min c 16 → getD (pairsFrom c bs ns) i d ≡ pairOf (getD bs i 0) (getD ns i 0)
+  unfolding pairsFrom
+  pairs-at c i d l =
+      let z = zip-length 16 bs ns h k in
+      firsts-at (λ (a : Pair). a) c i d d (zipPairs bs ns) (omega arith) (omega arith) ∙ zip-at i bs ns d (omega arith) (omega arith)
+
   -- one more pair
   pub pairs-push : (c b n : ℕ) → c < 16 → pairsFrom (c + 1) (set bs c b) (set ns c n) ≡ pairsFrom c bs ns ++ pairOf b n ∷ []
   unfolding pairsFrom
   pairs-push c b n l = ap (firsts (λ (a : Pair). a) (c + 1)) (zip-set c bs ns b n) ∙ firsts-push (λ (a : Pair). a) c (pairOf b n) (zipPairs bs ns) (omega (arith, zip-length 16 bs ns h k))
 
-  -- more than 16 are 16
-  pub pairs-min : (c : ℕ) → pairsFrom (min c 16) bs ns ≡ pairsFrom c bs ns
-  unfolding pairsFrom
-  pairs-min c = firsts-min (λ (a : Pair). a) c 16 (zipPairs bs ns) (omega (arith, zip-length 16 bs ns h k))
 
 -- the pairs that are missing, one at a time: those found so far, and those of the rest
 pub missing-on : (found next : List Pair) {ps rest : List Pair} {a : Pair} (qs : List Pair) {whole : List Pair} → ps ≡ a ∷ rest

@@ -1,10 +1,9 @@
 // Pairs of block and number (FBlockID, InstID), as many as a node keeps or announces.
 ghost use mathlib.Core.Path.{_≡_};
-ghost use mathlib.Core.Bool.{not};
-ghost use mathlib.Core.List.{List, [], _∷_, _++_};
+ghost use mathlib.Core.List.{[], _∷_, _++_};
 ghost use Prim.Native.Nat.{_+_, _≤_, _<_, min};
-ghost use Rattle.laws.specs.Lists.{select};
-ghost use Rattle.rules.specs.Picture.{Pair, samePair, holds};
+ghost use lib.ListN.{take};
+ghost use Rattle.rules.specs.Picture.{samePair, holds};
 ghost use Rattle.rules.specs.Ending.{missing};
 ghost use Rattle.node.specs.View.{pairOf, pairsOf};
 
@@ -48,6 +47,17 @@ impl Pairs {
             return n;
         }
         MAX_PAIRS
+    }
+
+    // The first of these pairs, at most `count`.
+    pub fn first(mut self, count: usize) -> Self
+        ensures { λ r. ⌜ pairsOf r ≡ take count (pairsOf self) ⌝ }
+    {
+        if count < self.count {
+            self.count = count;
+            return self;
+        }
+        self
     }
 
     // The pair is one of these.

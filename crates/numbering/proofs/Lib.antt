@@ -1,0 +1,5 @@
+-- Laws that the functions' proofs use.
+pub mod Holding
+pub mod Judging
+pub mod Numbers
+pub mod Offers

@@ -1,0 +1,117 @@
+-- What is left from the place on decides.
+use Prim.Native.Nat.{_+_, _-_, _<_, min}
+use Rattle.laws.specs.Lists.{collect}
+use Rattle.node.proofs.Arrays.{pairs-at, pairs-length}
+use Rattle.node.specs.View.{pairOf, pairsOf, rowsOf}
+use Rattle.numbering.proofs.Judging.{judged-here, judged-past}
+use Rattle.numbering.proofs.Offers.{offered, passed}
+use Rattle.numbering.specs.Marks.{isOffer, judgedOf}
+use Rattle.rules.specs.Picture.{Pair, pairsIn}
+use Rattle.rules.specs.Renumber.{freeNumber, renumber, renumberFrom}
+use borrow.Author.Needs.{needs}
+use lib.ListN.{drop, getD, length}
+use mathlib.Core.Bool.{false}
+use mathlib.Core.List.{_∷_}
+use mathlib.Core.Path.{_∙_, _≡_, ap, refl, sym}
+use native.Mathlib.Omega.{arith}
+use Rattle.numbering.proofs.renumber.renumber_from.Statement.{statement}
+use Rattle.numbering.proofs.renumber.renumber_from.Tie as tie
+
+abbrev Inv-loop : tie.InvT-loop
+Inv-loop count entries place tries announced good n left₀ i₀ left i = (length good ≡ 16) × (length (announced .blocks) ≡ 16) × (length (announced .numbers) ≡ 16) × (renumberFrom (freeNumber (collect pairsIn (rowsOf count entries)) (pairsOf announced)) i left (drop i (judgedOf (pairsOf announced) good)) ≡ renumber (freeNumber (collect pairsIn (rowsOf count entries)) (pairsOf announced)) place tries (judgedOf (pairsOf announced) good))
+
+abbrev μ-loop : tie.MeasureT-loop
+μ-loop count entries place tries announced good n left₀ i₀ left i = n - i
+
+len-requires : tie.Need-len-requires Inv-loop μ-loop
+len-requires c κs = search needs
+
+loop-holds : tie.Need-loop-holds Inv-loop μ-loop
+unfolding renumber
+loop-holds c = (search needs, search needs, search needs, refl)
+
+array-read-attempt : tie.Need-array-read-attempt Inv-loop μ-loop
+array-read-attempt c =
+    let at-len = c .before .before in
+    omega (arith, at-len .len .ensures, c .loop-test .taken)
+
+cast-attempt : tie.Need-cast-attempt Inv-loop μ-loop
+cast-attempt c =
+    let at-len = c .before .before in
+    omega (arith, at-len .len .ensures, c .loop-test .taken)
+
+element-copy-out-attempt : tie.Need-element-copy-out-attempt Inv-loop μ-loop
+element-copy-out-attempt c =
+    let at-len = c .before .before in
+    omega (arith, at-len .len .ensures, c .loop-test .taken)
+
+element-copy-out-attempt-2 : tie.Need-element-copy-out-attempt-2 Inv-loop μ-loop
+element-copy-out-attempt-2 c =
+    let at-loop-test = c .before in
+    let at-len = at-loop-test .before .before in
+    omega (arith, at-len .len .ensures, at-loop-test .loop-test .taken)
+
+attempt-requires : tie.Need-attempt-requires Inv-loop μ-loop
+attempt-requires c κs = search needs
+
+is-offer-requires : tie.Need-is-offer-requires Inv-loop μ-loop
+is-offer-requires c κs = search needs
+
+returns : tie.Need-returns Inv-loop μ-loop
+unfolding pairsOf
+returns c =
+    let at-is-offer = c .before in
+    let at-attempt = at-is-offer .before in
+    let at-loop-test = at-attempt .before .before .before in
+    let at-loop = at-loop-test .before in
+    let at-len = at-loop .before in
+    let start = at-len .before in
+    let w = at-loop .loop .inv in let s = start .args .t3 in let n = pairs-length (s .blocks) (s .numbers) (w .1) (w .2) (s .count) in let l : at-loop .loop .i < min (s .count) 16 = omega (arith, at-len .len .ensures, at-loop-test .loop-test .taken) in let h = judged-here (at-loop .loop .i) (pairOf 0 0) false (pairsOf s) (start .args .t4) (omega arith) (omega (arith, w .0)) ∙ ap (λ (a : Pair). record { pair = a; good = getD (start .args .t4) (at-loop .loop .i) false } ∷ drop (at-loop .loop .i + 1) (judgedOf (pairsOf s) (start .args .t4))) (pairs-at (s .blocks) (s .numbers) (w .1) (w .2) (s .count) (at-loop .loop .i) (pairOf 0 0) l) in at-attempt .attempt .ensures ∙ sym (offered (freeNumber (collect pairsIn (rowsOf (start .args .count) (start .args .entries))) (pairsOf (start .args .t3))) (at-loop .loop .i) (at-loop .loop .left) _ _ (sym (ap isOffer (at-attempt .attempt .ensures)) ∙ sym (at-is-offer .is-offer .ensures) ∙ c .if1 .taken)) ∙ ap (renumberFrom (freeNumber (collect pairsIn (rowsOf (start .args .count) (start .args .entries))) (pairsOf (start .args .t3))) (at-loop .loop .i) (at-loop .loop .left)) (sym h) ∙ w .3
+
+add-i : tie.Need-add-i Inv-loop μ-loop
+add-i c =
+    let at-loop-test = c .before .before .before .before .before in
+    let at-len = at-loop-test .before .before in
+    omega (arith, at-len .len .ensures, at-loop-test .loop-test .taken)
+
+loop-less : tie.Need-loop-less Inv-loop μ-loop
+loop-less c = search needs
+
+loop-again : tie.Need-loop-again Inv-loop μ-loop
+unfolding pairsOf
+loop-again c =
+    let at-is-offer = c .before in
+    let at-attempt = at-is-offer .before in
+    let at-loop-test = at-attempt .before .before .before in
+    let at-loop = at-loop-test .before in
+    let at-len = at-loop .before in
+    let start = at-len .before in
+    let w = at-loop .loop .inv in let s = start .args .t3 in let n = pairs-length (s .blocks) (s .numbers) (w .1) (w .2) (s .count) in let l : at-loop .loop .i < min (s .count) 16 = omega (arith, at-len .len .ensures, at-loop-test .loop-test .taken) in let h = judged-here (at-loop .loop .i) (pairOf 0 0) false (pairsOf s) (start .args .t4) (omega arith) (omega (arith, w .0)) ∙ ap (λ (a : Pair). record { pair = a; good = getD (start .args .t4) (at-loop .loop .i) false } ∷ drop (at-loop .loop .i + 1) (judgedOf (pairsOf s) (start .args .t4))) (pairs-at (s .blocks) (s .numbers) (w .1) (w .2) (s .count) (at-loop .loop .i) (pairOf 0 0) l) in (w .0, w .1, w .2, sym (passed (freeNumber (collect pairsIn (rowsOf (start .args .count) (start .args .entries))) (pairsOf (start .args .t3))) (at-loop .loop .i) (at-loop .loop .left) _ _ (sym (ap isOffer (at-attempt .attempt .ensures)) ∙ sym (at-is-offer .is-offer .ensures) ∙ c .if1 .left)) ∙ ap (renumberFrom (freeNumber (collect pairsIn (rowsOf (start .args .count) (start .args .entries))) (pairsOf (start .args .t3))) (at-loop .loop .i) (at-loop .loop .left)) (sym h) ∙ w .3)
+
+returns-2 : tie.Need-returns-2 Inv-loop μ-loop
+unfolding pairsOf renumberFrom
+returns-2 c =
+    let at-loop = c .before in
+    let at-len = at-loop .before in
+    let start = at-len .before in
+    let w = at-loop .loop .inv in let s = start .args .t3 in ap (renumberFrom (freeNumber (collect pairsIn (rowsOf (start .args .count) (start .args .entries))) (pairsOf (start .args .t3))) (at-loop .loop .i) (at-loop .loop .left)) (sym (judged-past (at-loop .loop .i) (pairsOf s) (start .args .t4) (omega (arith, pairs-length (s .blocks) (s .numbers) (w .1) (w .2) (s .count), at-len .len .ensures, c .loop-test .left)))) ∙ w .3
+
+pub renumber-from-spec : {M : Type 1} → statement M
+renumber-from-spec =
+    tie.close
+    (tie.spec
+    Inv-loop
+    μ-loop
+    len-requires
+    loop-holds
+    array-read-attempt
+    cast-attempt
+    element-copy-out-attempt
+    element-copy-out-attempt-2
+    attempt-requires
+    is-offer-requires
+    returns
+    add-i
+    loop-less
+    loop-again
+    returns-2)

@@ -5,9 +5,9 @@ ghost use Rattle.laws.specs.Lists.{any};
 ghost use Rattle.rules.specs.Picture.{bars, keeps};
 ghost use Rattle.node.specs.View.{rowOf, rowsOf};
 ghost use Rattle.entries.specs.Tests.{keepsAtLimit};
+use super::outlook;
 use node::address::LogicalNodeAddress;
 use node::entry::NodeEntry;
-use super::outlook;
 
 // An entry bars the address; an entry keeps it; one that keeps it reaches the limit if it is counted once more.
 pub struct Claims {

@@ -76,7 +76,6 @@ module _ (bs ns : List ℕ) (h : length bs ≡ 16) (k : length ns ≡ 16) where
   unfolding pairsFrom
   pairs-push c b n l = ap (firsts (λ (a : Pair). a) (c + 1)) (zip-set c bs ns b n) ∙ firsts-push (λ (a : Pair). a) c (pairOf b n) (zipPairs bs ns) (omega (arith, zip-length 16 bs ns h k))
 
-
 -- the pairs that are missing, one at a time: those found so far, and those of the rest
 pub missing-on : (found next : List Pair) {ps rest : List Pair} {a : Pair} (qs : List Pair) {whole : List Pair} → ps ≡ a ∷ rest
     → next ≡ found ++ missing (a ∷ []) qs → found ++ missing ps qs ≡ whole → next ++ missing rest qs ≡ whole

@@ -95,7 +95,14 @@ impl NodeEntry {
     }
 
     // An entry that keeps an address and pairs: LISTED, or SETTING with the place and the tries of its renumbering.
-    pub fn keeping(status: u8, address: LogicalNodeAddress, pairs: Pairs, place: u8, tries: u8, bad: u8) -> Self
+    pub fn keeping(
+        status: u8,
+        address: LogicalNodeAddress,
+        pairs: Pairs,
+        place: u8,
+        tries: u8,
+        bad: u8,
+    ) -> Self
         ensures { λ r. ⌜ _≡_ {A = Row} (rowOf r) (record { status = statusOf status (address .0) (pairsOf pairs) place tries; bad = bad; silences = 0 }) ⌝ }
     {
         let blocks = pairs.blocks;

@@ -28,7 +28,10 @@ fn mark_held(marks: [bool; 16], kept: Pairs, announced: Pairs) -> [bool; 16]
     let mut next = marks;
     let mut i = 0;
     while i < n {
-        next[i] = either(next[i], kept.holds(announced.blocks[i], announced.numbers[i]));
+        next[i] = either(
+            next[i],
+            kept.holds(announced.blocks[i], announced.numbers[i]),
+        );
         i += 1;
     }
     next

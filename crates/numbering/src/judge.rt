@@ -41,7 +41,13 @@ pub fn judge(held: [bool; 16], announced: Pairs) -> [bool; 16]
     let mut good = [false; 16];
     let mut i = 0;
     while i < n {
-        good[i] = is_good(held[i], announced, i, announced.blocks[i], announced.numbers[i]);
+        good[i] = is_good(
+            held[i],
+            announced,
+            i,
+            announced.blocks[i],
+            announced.numbers[i],
+        );
         i += 1;
     }
     good

@@ -6,10 +6,10 @@ ghost use Rattle.rules.specs.Picture.{pairsIn};
 ghost use Rattle.rules.specs.Renumber.{freeNumber, renumber};
 ghost use Rattle.node.specs.View.{pairOf, pairsOf, rowsOf};
 ghost use Rattle.numbering.specs.Marks.{judgedOf, attemptOf, isOffer, renumberingOf};
-use node::entry::NodeEntry;
-use node::pairs::Pairs;
 use super::free;
 use super::free::Free;
+use node::entry::NodeEntry;
+use node::pairs::Pairs;
 
 // A pair is offered a number as often as this.
 pub const MAX_TRIES: u8 = 3;

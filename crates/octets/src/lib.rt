@@ -3,7 +3,7 @@ ghost use mathlib.Core.Path.{_≡_};
 ghost use Prim.Native.Nat.{_+_, _*_, _%_, _≤_, _<_};
 ghost use lib.ListN.{length};
 ghost use lib.Seq.{sets};
-ghost use Rattle.rules.specs.Event.{be2, be4, two, four};
+ghost use Rattle.rules.specs.Event.{be4, two, four};
 
 // The last byte of a number.
 pub fn low(n: u32) -> u8

@@ -1,0 +1,4 @@
+-- Laws that several functions' proofs use.
+pub mod Bytes
+pub mod Readings
+pub mod Tellings

@@ -6,7 +6,7 @@ use native.Mathlib.Nat.{add-zero}
 use native.Mathlib.Numerals.{add-one}
 use native.Mathlib.Omega.{arith}
 use lib.ListN.{length, length-append, drop, getD, set, drop-of-length-le}
-use lib.Seq.{sets, sets-eq, drop-cons, drop-set-lt}
+use lib.Seq.{sets, length-sets, sets-eq, drop-cons, drop-set-lt}
 
 module _ {A : Type 0} where
   -- two runs of stores, one behind the other, are one
@@ -48,6 +48,10 @@ wrote-append {b} {c} {d} {at} {i} {j} {xs} {ys} h k =
       buffer = k .buffer ∙ (λ t. sets (h .buffer t) (h .place t) ys) ∙ sets-append b at xs ys;
       place = let e = length-append xs ys in omega (arith, h .place, k .place);
     }
+
+-- the buffer stays as long as it is
+pub wrote-length : {b c : List ℕ} {at i : ℕ} {xs : List ℕ} → Wrote b at xs i c → length c ≡ length b
+wrote-length {b} {c} {at} {i} {xs} h = ap length (h .buffer) ∙ length-sets b at xs
 
 pub wrote-along : {b c : List ℕ} {at i : ℕ} {xs ys : List ℕ} → xs ≡ ys → Wrote b at xs i c → Wrote b at ys i c
 wrote-along {b} {c} {at} {i} e h = subst (λ (l : List ℕ). Wrote b at l i c) e h

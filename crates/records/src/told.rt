@@ -14,6 +14,7 @@ use super::order::write_ask;
 use super::order::write_delta;
 use node::address::NodePosition;
 use node::entry::NodeEntry;
+use node::entry::clamp;
 use node::pairs::Pairs;
 
 // The entries that are asked: those whose question is open, or the SILENT ones.
@@ -59,14 +60,16 @@ pub fn write_asks(
     count: usize,
     entries: [NodeEntry; 63],
 ) -> usize
-    requires { ⌜ (count ≤ 63) × (at + length (encodeAll pass (asks (whichOf which) 1 (rowsOf count entries))) ≤ length (now out)) ⌝ }
+    requires { ⌜ at + length (encodeAll pass (asks (whichOf which) 1 (rowsOf count entries))) ≤ length (now out) ⌝ }
     ensures { λ r. ⌜ Wrote (now (out .entry)) at (encodeAll pass (asks (whichOf which) 1 (rowsOf count entries))) r (now (out .exit)) ⌝ }
 {
+    let n = clamp(count);
     let mut end = at;
     let mut i = 0;
-    while i < count {
-        let position = NodePosition(i as u8 + 1);
-        let next = write_ask_if(out, end, pass, which, position, entries[i]);
+    while i < n {
+        let before = i as u8;
+        let position = before + 1;
+        let next = write_ask_if(out, end, pass, which, NodePosition(position), entries[i]);
         end = next;
         i += 1;
     }
@@ -113,12 +116,13 @@ pub fn write_changes(
     before: [NodeEntry; 63],
     after: [NodeEntry; 63],
 ) -> usize
-    requires { ⌜ (3 ≤ size) × (count ≤ 63) × (at + length (encodeAll pass (tellRows (deltaOf delta) (changesOf delta) size (rowsOf count before) (rowsOf count after))) ≤ length (now out)) ⌝ }
+    requires { ⌜ (3 ≤ size) × (at + length (encodeAll pass (tellRows (deltaOf delta) (changesOf delta) size (rowsOf count before) (rowsOf count after))) ≤ length (now out)) ⌝ }
     ensures { λ r. ⌜ Wrote (now (out .entry)) at (encodeAll pass (tellRows (deltaOf delta) (changesOf delta) size (rowsOf count before) (rowsOf count after))) r (now (out .exit)) ⌝ }
 {
+    let n = clamp(count);
     let mut end = at;
     let mut i = 0;
-    while i < count {
+    while i < n {
         let next = write_change(out, end, pass, delta, size, before[i], after[i]);
         end = next;
         i += 1;

@@ -1,8 +1,8 @@
 -- At every turn the ASKs of the entries that are left, written from here on, make the whole.
 use Prim.Native.Nat.{_+_, _-_, _≤_}
 use Rattle.laws.specs.Buffers.{Owes, owes-end, owes-start}
-use Rattle.laws.specs.Views.{firsts-here, firsts-past}
-use Rattle.node.specs.View.{rowOf, rowsOf}
+use Rattle.node.proofs.Arrays.{rows-here, rows-past}
+use Rattle.node.specs.View.{rowsOf}
 use Rattle.records.proofs.Tellings.{asks-end, asks-room, asks-turn}
 use Rattle.records.specs.View.{whichOf}
 use Rattle.rules.specs.Order.{encodeAll}
@@ -15,60 +15,77 @@ use Rattle.records.proofs.told.write_asks.Statement.{statement}
 use Rattle.records.proofs.told.write_asks.Tie as tie
 
 abbrev Inv-loop : tie.InvT-loop
-Inv-loop out₀ at pass which count entries end₀ i₀ out end i = (i ≤ count) × (length out ≡ length out₀) × (length entries ≡ 63) × Owes out₀ at (encodeAll pass (asks (whichOf which) 1 (rowsOf count entries))) end out (encodeAll pass (asks (whichOf which) (i + 1) (drop i (rowsOf count entries))))
+Inv-loop out₀ at pass which count entries n end₀ i₀ out end i = (i ≤ n) × (length out ≡ length out₀) × (length entries ≡ 63) × Owes out₀ at (encodeAll pass (asks (whichOf which) 1 (rowsOf count entries))) end out (encodeAll pass (asks (whichOf which) (i + 1) (drop i (rowsOf count entries))))
 
 abbrev μ-loop : tie.MeasureT-loop
-μ-loop out₀ at pass which count entries end₀ i₀ out end i = count - i
+μ-loop out₀ at pass which count entries n end₀ i₀ out end i = n - i
+
+clamp-requires : tie.Need-clamp-requires Inv-loop μ-loop
+clamp-requires c κs = search needs
 
 loop-holds : tie.Need-loop-holds Inv-loop μ-loop
 loop-holds c = (omega arith, refl, search needs, owes-start _ _ _)
 
-cast-t13 : tie.Need-cast-t13 Inv-loop μ-loop
-cast-t13 c = search needs
+cast-before : tie.Need-cast-before Inv-loop μ-loop
+cast-before c =
+    let at-clamp = c .before .before in
+    omega (arith, at-clamp .clamp .ensures, c .loop-test .taken)
 
-add-t14 : tie.Need-add-t14 Inv-loop μ-loop
-add-t14 c = search needs
+add-position : tie.Need-add-position Inv-loop μ-loop
+add-position c =
+    let at-clamp = c .before .before in
+    omega (arith, at-clamp .clamp .ensures, c .loop-test .taken)
 
 mul-write-ask-if : tie.Need-mul-write-ask-if Inv-loop μ-loop
-mul-write-ask-if c = search needs
+mul-write-ask-if c =
+    let at-loop-test = c .before in
+    let at-clamp = at-loop-test .before .before in
+    omega (arith, at-clamp .clamp .ensures, at-loop-test .loop-test .taken)
 
 array-copy-out-write-ask-if : tie.Need-array-copy-out-write-ask-if Inv-loop μ-loop
-array-copy-out-write-ask-if c = search needs
+array-copy-out-write-ask-if c =
+    let at-loop-test = c .before in
+    let at-clamp = at-loop-test .before .before in
+    omega (arith, at-clamp .clamp .ensures, at-loop-test .loop-test .taken)
 
 write-ask-if-requires : tie.Need-write-ask-if-requires Inv-loop μ-loop
-unfolding rowsOf
 write-ask-if-requires c κs =
     let at-loop-test = c .before .before in
     let at-loop = at-loop-test .before in
-    let start = at-loop .before .before in
+    let at-clamp = at-loop .before in
+    let start = at-clamp .before .before in
     let w = at-loop .loop .inv in
-    asks-room (start .args .pass) (whichOf (start .args .which)) (at-loop .loop .i + 1) (firsts-here rowOf (start .args .count) (at-loop .loop .i) _ (start .args .t6) (at-loop-test .loop-test .taken) (omega arith)) (w .3) (omega arith)
+    asks-room (start .args .pass) (whichOf (start .args .which)) (at-loop .loop .i + 1) (rows-here (start .args .t6) (w .2) (start .args .count) (at-loop .loop .i) _ (omega (arith, at-clamp .clamp .ensures, at-loop-test .loop-test .taken))) (w .3) (omega arith)
 
 add-i : tie.Need-add-i Inv-loop μ-loop
-add-i c = search needs
+add-i c =
+    let at-loop-test = c .before .before .before .before .before in
+    let at-clamp = at-loop-test .before .before in
+    omega (arith, at-clamp .clamp .ensures, at-loop-test .loop-test .taken)
 
 loop-less : tie.Need-loop-less Inv-loop μ-loop
 loop-less c = search needs
 
 loop-again : tie.Need-loop-again Inv-loop μ-loop
-unfolding rowsOf
 loop-again c =
     let at-write-ask-if = c .before .before in
     let at-loop-test = at-write-ask-if .before .before .before in
     let at-loop = at-loop-test .before in
-    let start = at-loop .before .before in
+    let at-clamp = at-loop .before in
+    let start = at-clamp .before .before in
     let w = at-loop .loop .inv in
-    (omega arith, at-write-ask-if .write-ask-if .kept .0 ∙ w .1, w .2, asks-turn (start .args .pass) (whichOf (start .args .which)) (at-loop .loop .i + 1) (firsts-here rowOf (start .args .count) (at-loop .loop .i) _ (start .args .t6) (at-loop-test .loop-test .taken) (omega arith)) (at-write-ask-if .write-ask-if .ensures) (w .3))
+    (omega arith, at-write-ask-if .write-ask-if .kept .0 ∙ w .1, w .2, asks-turn (start .args .pass) (whichOf (start .args .which)) (at-loop .loop .i + 1) (rows-here (start .args .t6) (w .2) (start .args .count) (at-loop .loop .i) _ (omega (arith, at-clamp .clamp .ensures, at-loop-test .loop-test .taken))) (at-write-ask-if .write-ask-if .ensures) (w .3))
 
 same-length : tie.Need-same-length Inv-loop μ-loop
 same-length c = search needs
 
 returns : tie.Need-returns Inv-loop μ-loop
-unfolding rowsOf
 returns c =
     let at-loop = c .before in
-    let start = at-loop .before .before in
-    owes-end (asks-end (start .args .pass) (whichOf (start .args .which)) (at-loop .loop .i + 1) (firsts-past rowOf (start .args .count) (at-loop .loop .i) (start .args .t6) (c .loop-test .left))) (at-loop .loop .inv .3)
+    let at-clamp = at-loop .before in
+    let start = at-clamp .before .before in
+    let w = at-loop .loop .inv in
+    owes-end (asks-end (start .args .pass) (whichOf (start .args .which)) (at-loop .loop .i + 1) (rows-past (start .args .t6) (w .2) (start .args .count) (at-loop .loop .i) (omega (arith, at-clamp .clamp .ensures, c .loop-test .left)))) (w .3)
 
 pub write-asks-spec : {M : Type 1} → statement M
 write-asks-spec =
@@ -76,9 +93,10 @@ write-asks-spec =
     (tie.spec
     Inv-loop
     μ-loop
+    clamp-requires
     loop-holds
-    cast-t13
-    add-t14
+    cast-before
+    add-position
     mul-write-ask-if
     array-copy-out-write-ask-if
     write-ask-if-requires

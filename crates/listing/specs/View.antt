@@ -1,0 +1,39 @@
+-- What a flat listing and the code's look-up stand for.
+use Prim.Native.Nat.{ℕ, zero, suc}
+use mathlib.Core.List.{List, [], _∷_, map}
+use lib.ListN.{length, replicate, getD}
+use lib.Seq.{sets}
+use Rattle.laws.specs.Views.{firsts}
+use Rattle.laws.specs.Lists.{upFrom}
+use Rattle.rules.specs.Listing as rules
+use Rattle.rules.specs.Listing.{Entry, entry}
+use Rattle.node.specs.View.{pairOf}
+use Rattle.listing.specs.declared.flat.Listing.{Listing}
+use Rattle.listing.specs.declared.find.Lookup.{Lookup}
+use Rattle.listing.specs.declared.find.Lookup.the-variants as lookups
+
+-- 1,008 places, zeros behind those that are filled
+unfoldable pub filled : List ℕ → List ℕ
+filled ns = sets (replicate 1008 0) 0 ns
+
+-- the flat listing of these entries
+unfoldable pub flatOf : List Entry → Listing
+flatOf es =
+    record {
+      count = length es;
+      positions = filled (map (λ (e : Entry). e .position) es);
+      addresses = filled (map (λ (e : Entry). e .address) es);
+      blocks = filled (map (λ (e : Entry). e .pair .block) es);
+      numbers = filled (map (λ (e : Entry). e .pair .number) es);
+    }
+
+-- the entry at a place of a flat listing, and the entries that it holds
+unfoldable pub entryAt : Listing → ℕ → Entry
+entryAt l i = entry (getD (l .positions) i 0) (getD (l .addresses) i 0) (pairOf (getD (l .blocks) i 0) (getD (l .numbers) i 0))
+
+unfoldable pub entriesIn : Listing → List Entry
+entriesIn l = map (entryAt l) (upFrom 0 (l .count))
+
+abbrev pub lookupOf : Lookup → rules.Lookup
+lookupOf (lookups.Refused n) = rules.notFound n
+lookupOf (lookups.Found x a) = rules.found (x .0) (a .0)

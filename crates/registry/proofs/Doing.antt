@@ -1,0 +1,83 @@
+-- What a function does with a record, from what it writes and the picture that it leaves.
+use Prim.Native.Nat.{ℕ, suc, _+_, _≤_}
+use mathlib.Core.Path.{_≡_, refl, sym, _∙_, ap, subst}
+use mathlib.Core.Bool.{Bool, true, false, cond, _&&_}
+use mathlib.Core.List.{List, [], _∷_, _++_, append-assoc, append-nil}
+use native.Mathlib.Omega.{arith}
+use lib.ListN.{length}
+use lib.Seq.{sets}
+use Rattle.laws.specs.Bools.{clash}
+use Rattle.laws.specs.Buffers.{Wrote, wrote-along, wrote-length}
+use Rattle.rules.specs.Picture.{Picture, Row, isOk, isOpen, withState, withDelay}
+use Rattle.rules.specs.Order.{Order, encodeAll}
+use Rattle.rules.specs.Step.{Change, Response, refuse, change, refuseIf, asks, scanned, scan}
+use Rattle.rules.specs.Ending.{settled, okOrder, waitOrder, told, ordersOf, pictureOf}
+use Rattle.rules.specs.Run.{Outcome, refused, taken, concluded, left, written, lent}
+use Rattle.registry.specs.declared.image.RegistryImage.{RegistryImage}
+use Rattle.registry.specs.declared.record.Recorded.{Recorded}
+use Rattle.registry.specs.declared.record.RecordAnswer.the-variants as answers
+use Rattle.registry.specs.View.{viewOf}
+use Rattle.registry.specs.Outcome.{handed, expected, Does, ended, endOrders, Ends, scanOrders, Scans}
+use Rattle.registry.proofs.Writing.{orders-append, orders-length, wrote-orders}
+
+-- the same outcome by another name
+pub along : {came : RegistryImage} {o o′ : Outcome} {b c : List ℕ} {r : Recorded} → o ≡ o′ → Does came o′ b r c → Does came o b r c
+along {came} {o} {o′} {b} {c} {r} e h = subst (λ (x : Outcome). Does came x b r c) (sym e) h
+
+isTaken : Outcome → Bool
+isTaken (refused n) = false
+isTaken (taken q os) = true
+
+-- a refusal hands back the very picture
+pub refuses : {came : RegistryImage} {o : Outcome} {r : Recorded} (b : List ℕ) (n : ℕ) → o ≡ refused n → (r .answer ≡ answers.Refused n) × (r .picture ≡ came)
+    → Does came o b r b
+unfolding handed expected left lent written
+refuses b n e f = along e (record { outcome = (λ i. record { picture = viewOf (f .1 i); answer = f .0 i; buffer = b }); kept = λ m h. f .1 })
+
+-- the orders of a taken event: those in front of the ending, and the ending's own
+pub orders-of : (p : Picture) (c : Change) → ordersOf p c ≡ (c .first ++ told p (c .picture) ++ c .set) ++ endOrders (c .picture)
+unfolding ordersOf endOrders
+orders-of p c = append-assoc (c .first ++ told p (c .picture) ++ c .set) (okOrder (c .picture)) (waitOrder (settled (c .picture)))
+
+-- what is handed back with a taken event
+pub takes : {came : RegistryImage} {r : Recorded} {b d : List ℕ} (p : Picture) (c : Change) → viewOf (r .picture) ≡ ended (c .picture)
+    → r .answer ≡ answers.Taken (length (encodeAll (c .picture .pass) (ordersOf p c))) → d ≡ sets b 0 (encodeAll (c .picture .pass) (ordersOf p c))
+    → Does came (concluded p (change c)) b r d
+unfolding handed expected left lent written concluded pictureOf ended withDelay settled withState isTaken
+takes p c e f g = record { outcome = (λ i. record { picture = e i; answer = f i; buffer = g i }); kept = λ n h. clash refl (ap isTaken h) }
+
+pub written-taken : (p : Picture) (c : Change) → written (concluded p (change c)) ≡ encodeAll (c .picture .pass) (ordersOf p c)
+unfolding written concluded pictureOf withDelay settled withState
+written-taken p c = refl
+
+module _ {came : RegistryImage} {r : Recorded} {b m d : List ℕ} {at : ℕ} (p : Picture) (c : Change) where
+  pub does : Wrote b 0 (encodeAll (c .picture .pass) (c .first ++ told p (c .picture) ++ c .set)) at m → Ends (c .picture) m at r d
+      → Does came (concluded p (change c)) b r d
+  does w e =
+      let n = c .picture .pass in
+      let x = wrote-orders n (c .first ++ told p (c .picture) ++ c .set) (endOrders (c .picture)) w (record { buffer = e .buffer; place = refl }) in
+      let l = ap (encodeAll n) (sym (orders-of p c)) in
+      takes p c (e .picture)
+      (e .answer ∙ ap (λ (k : ℕ). answers.Taken k) (x .place ∙ omega arith ∙ ap length l))
+      (x .buffer ∙ ap (sets b 0) l)
+
+-- An event whose change is c: the orders in front of the ending are fs, and the picture that goes to the ending is q.
+module _ (p : Picture) (c : Change) {o : Outcome} (e : o ≡ concluded p (change c)) {fs : List Order} (f : c .first ++ told p (c .picture) ++ c .set ≡ fs)
+    {q : Picture} (g : q ≡ c .picture) (b : List ℕ) where
+  whole : length (written o) ≡ length (encodeAll (q .pass) fs) + length (encodeAll (q .pass) (endOrders q))
+  whole =
+      ap (λ (x : Outcome). length (written x)) e ∙ ap length (written-taken p c) ∙ ap (λ (l : List Order). length (encodeAll (c .picture .pass) l)) (orders-of p c)
+      ∙ orders-length (c .picture .pass) (c .first ++ told p (c .picture) ++ c .set) (endOrders (c .picture))
+      ∙ (λ i. length (encodeAll (sym g i .pass) (f i)) + length (encodeAll (sym g i .pass) (endOrders (sym g i))))
+
+  pub front-room : length (written o) ≤ length b → length (encodeAll (q .pass) fs) ≤ length b
+  front-room room = omega (arith, room, whole)
+
+  module _ {m : List ℕ} {at : ℕ} (w : Wrote b 0 (encodeAll (q .pass) fs) at m) where
+    pub end-room : length (written o) ≤ length b → at + length (encodeAll (q .pass) (endOrders q)) ≤ length m
+    end-room room = omega (arith, room, whole, w .place, wrote-length w)
+
+    pub done : {came : RegistryImage} {r : Recorded} {d : List ℕ} → Ends q m at r d → Does came o b r d
+    done {came} {r} {d} h =
+        along e
+        (does p c (wrote-along (λ i. encodeAll (g i .pass) (sym f i)) w) (subst (λ (x : Picture). Ends x m at r d) g h))

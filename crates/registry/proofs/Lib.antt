@@ -1,0 +1,11 @@
+-- Laws that several functions' proofs use.
+pub mod States
+pub mod Writing
+pub mod Endings
+pub mod Doing
+pub mod Scanning
+pub mod Telling
+pub mod Seats
+pub mod Places
+pub mod Refusing
+pub mod Announcing

@@ -1,0 +1,59 @@
+-- The two limits.
+use Rattle.rules.specs.Picture.{fresh, freshNumber, legalSize}
+use borrow.Author.Needs.{needs}
+use borrow.Author.Tests.{le-leb, lt-leb}
+use mathlib.Core.Path.{refl}
+use Rattle.registry.proofs.image.RegistryImage.fresh.Statement.{statement}
+use Rattle.registry.proofs.image.RegistryImage.fresh.Tie as tie
+
+cast-stopped : tie.Need-cast-stopped
+cast-stopped c = search needs
+
+stopped-requires : tie.Need-stopped-requires
+stopped-requires c κs = search needs
+
+returns : tie.Need-returns
+unfolding freshNumber fresh legalSize
+returns c =
+    let at-if1 = c .before in
+    simp (lt-leb _ _ (at-if1 .if1 .taken)) (refl, c .stopped .ensures)
+
+cast-stopped-2 : tie.Need-cast-stopped-2
+cast-stopped-2 c = search needs
+
+stopped-requires-2 : tie.Need-stopped-requires-2
+stopped-requires-2 c κs = search needs
+
+returns-2 : tie.Need-returns-2
+unfolding freshNumber fresh legalSize
+returns-2 c =
+    let at-if2 = c .before in
+    let at-if1 = at-if2 .before in
+    simp (le-leb _ _ (at-if1 .if1 .left), lt-leb _ _ (at-if2 .if2 .taken)) (refl, c .stopped2 .ensures)
+
+cast-stopped-3 : tie.Need-cast-stopped-3
+cast-stopped-3 c = search needs
+
+stopped-requires-3 : tie.Need-stopped-requires-3
+stopped-requires-3 c κs = search needs
+
+returns-3 : tie.Need-returns-3
+unfolding freshNumber fresh legalSize
+returns-3 c =
+    let at-if2 = c .before in
+    let at-if1 = at-if2 .before in
+    simp (le-leb _ _ (at-if1 .if1 .left), le-leb _ _ (at-if2 .if2 .left)) (refl, c .stopped3 .ensures)
+
+pub fresh-spec : {M : Type 1} → statement M
+fresh-spec =
+    tie.close
+    (tie.spec
+    cast-stopped
+    stopped-requires
+    returns
+    cast-stopped-2
+    stopped-requires-2
+    returns-2
+    cast-stopped-3
+    stopped-requires-3
+    returns-3)

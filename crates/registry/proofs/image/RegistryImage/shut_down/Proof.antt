@@ -1,0 +1,19 @@
+-- Nothing is written.
+use Rattle.registry.proofs.Scanning.{shuts}
+use Rattle.registry.specs.View.{viewOf}
+use borrow.Author.Needs.{needs}
+use mathlib.Core.Path.{refl}
+use Rattle.registry.proofs.image.RegistryImage.shut_down.Statement.{statement}
+use Rattle.registry.proofs.image.RegistryImage.shut_down.Tie as tie
+
+stopped-requires : tie.Need-stopped-requires
+stopped-requires c κs = search needs
+
+returns : tie.Need-returns
+unfolding viewOf
+returns c =
+    let start = c .before .before in
+    shuts (viewOf (start .args .self)) (start .args .out .now) (c .stopped .ensures) refl
+
+pub shut-down-spec : {M : Type 1} → statement M
+shut-down-spec = tie.close (tie.spec stopped-requires returns)

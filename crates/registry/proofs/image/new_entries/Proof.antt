@@ -1,0 +1,18 @@
+-- One entry, 63 times.
+use Rattle.laws.specs.Views.{firsts-replicate}
+use Rattle.node.specs.View.{rowOf, rowsOf}
+use borrow.Author.Needs.{needs}
+use lib.ListN.{replicate}
+use mathlib.Core.Path.{_∙_, ap}
+use Rattle.registry.proofs.image.new_entries.Statement.{statement}
+use Rattle.registry.proofs.image.new_entries.Tie as tie
+
+new-requires : tie.Need-new-requires
+new-requires c κs = search needs
+
+returns : tie.Need-returns
+unfolding rowsOf
+returns c = λ k h. firsts-replicate rowOf k 63 (c .new .result) h ∙ ap (replicate k) (c .new .ensures)
+
+pub new-entries-spec : {M : Type 1} → statement M
+new-entries-spec = tie.close (tie.spec new-requires returns)

@@ -1,0 +1,116 @@
+// The ring picture: made for L, and shown.
+ghost use mathlib.Core.Path.{_≡_};
+ghost use mathlib.Core.Bool.{false};
+ghost use mathlib.Core.List.{[]};
+ghost use Rattle.rules.specs.Picture.{Picture, Off, fresh, freshNumber};
+ghost use Rattle.registry.specs.View.{viewOf, AllNew, makeNumberOf};
+use node::entry::NodeEntry;
+
+// The registry's state by its number.
+#[repr(C)]
+pub struct RegistryState(pub u8);
+
+// The ring does not run.
+pub const OFF: u8 = 0;
+
+// The ring is being scanned.
+pub const NOTOK: u8 = 1;
+
+// The ring is registered.
+pub const OK: u8 = 2;
+
+// Whether a delay runs, by its number.
+#[repr(C)]
+pub struct CfgDelay(pub u8);
+
+pub const STOPPED: u8 = 0;
+
+pub const RUNNING: u8 = 1;
+
+// L, the payload size of a telegram.
+pub const MIN_SIZE: usize = 12;
+
+pub const MAX_SIZE: usize = 45;
+
+pub const ILLEGAL_SIZE: u8 = 10;
+
+// The paper's ring picture: the pass, the state, whether a delay runs, L, and an entry for each unit of the ring, the first `units` of
+// the array.
+#[repr(C)]
+pub struct RegistryImage {
+    pub pass: u32,
+    pub state: RegistryState,
+    pub delay: CfgDelay,
+    pub size: u8,
+    pub units: u8,
+    pub entries: [NodeEntry; 63],
+}
+
+// What making a picture answers: the number of a refusal, or that it is made for the L that was asked for.
+pub enum MakeAnswer {
+    Refused(u8),
+    Made,
+}
+
+// An answer, and a fresh picture.
+pub struct MadeImage {
+    pub answer: MakeAnswer,
+    pub picture: RegistryImage,
+}
+
+impl MakeAnswer {
+    // The number given back: 0 where the picture is for the L that was asked for.
+    pub fn number(self) -> u8
+        ensures { λ r. ⌜ r ≡ makeNumberOf self ⌝ }
+    {
+        match self {
+            MakeAnswer::Refused(number) => number,
+            MakeAnswer::Made => 0,
+        }
+    }
+}
+
+// Entries that are asked and count nothing yet.
+pub(crate) fn new_entries() -> [NodeEntry; 63]
+    ensures { λ r. ⌜ AllNew r ⌝ }
+{
+    [NodeEntry::new(); 63]
+}
+
+impl RegistryImage {
+    // A picture whose ring does not run.
+    pub(crate) fn stopped(pass: u32, size: u8) -> Self
+        ensures { λ r. ⌜ _≡_ {A = Picture} (viewOf r) (record { state = Off; pass = pass; size = size; delay = false; rows = [] }) ⌝ }
+    {
+        RegistryImage {
+            pass,
+            state: RegistryState(OFF),
+            delay: CfgDelay(STOPPED),
+            size,
+            units: 0,
+            entries: new_entries(),
+        }
+    }
+
+    // A fresh picture for L; 10 where L is outside 12 to 45, and then one for 12.
+    pub fn fresh(l: usize) -> MadeImage
+        ensures { λ r. ⌜ (makeNumberOf (r .answer) ≡ freshNumber l) × (viewOf (r .picture) ≡ fresh l) ⌝ }
+    {
+        if l < MIN_SIZE {
+            return MadeImage {
+                answer: MakeAnswer::Refused(ILLEGAL_SIZE),
+                picture: RegistryImage::stopped(0, MIN_SIZE as u8),
+            };
+        }
+        if MAX_SIZE < l {
+            return MadeImage {
+                answer: MakeAnswer::Refused(ILLEGAL_SIZE),
+                picture: RegistryImage::stopped(0, MIN_SIZE as u8),
+            };
+        }
+        MadeImage {
+            answer: MakeAnswer::Made,
+            picture: RegistryImage::stopped(0, l as u8),
+        }
+    }
+}

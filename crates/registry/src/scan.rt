@@ -1,0 +1,112 @@
+// Scans of the ring: START, NCE and restarts; SHUTDOWN; DELAY.
+ghost use Prim.Native.Nat.{suc, _+_, _≤_, _<_};
+ghost use lib.ListN.{length};
+ghost use Rattle.rules.specs.House.{maxPass};
+ghost use Rattle.rules.specs.Event.{START, NCE, SHUTDOWN, DELAY};
+ghost use Rattle.rules.specs.Order.{encodeAll};
+ghost use Rattle.rules.specs.Step.{respond};
+ghost use Rattle.rules.specs.Run.{concluded, written};
+ghost use Rattle.registry.specs.View.{viewOf};
+ghost use Rattle.registry.specs.Outcome.{scanOrders, Scans, Does};
+use entries::changes;
+use records::order;
+use records::order::Notice;
+use records::told;
+use records::told::Which;
+use super::image;
+use super::image::CfgDelay;
+use super::image::NOTOK;
+use super::image::RegistryImage;
+use super::image::RegistryState;
+use super::image::STOPPED;
+use super::record::RecordAnswer;
+use super::record::Recorded;
+
+// The last pass.
+pub const MAX_PASS: u32 = 4294967295;
+
+pub const NO_PASS_LEFT: u8 = 9;
+
+pub const WRONG_PASS: u8 = 5;
+
+pub const NOT_ASKED: u8 = 8;
+
+impl RegistryImage {
+    // A scan of these entries, behind the orders written up to `at`: the next pass, NOTOK, no delay, an ASK for each open question.
+    pub(crate) fn scan(mut self, out: &mut [u8], at: usize) -> Recorded
+        requires { ⌜ (self .pass < maxPass) × (at + length (encodeAll (suc (self .pass)) (scanOrders (viewOf self))) ≤ length (now out)) ⌝ }
+        ensures { λ r. ⌜ Scans (viewOf self) (now (out .entry)) at r (now (out .exit)) ⌝ }
+    {
+        let pass = self.pass + 1;
+        let units = self.units as usize;
+        let entries = self.entries;
+        let end = told::write_asks(out, at, pass, Which::Open, units, entries);
+        self.pass = pass;
+        let state = RegistryState(NOTOK);
+        self.state = state;
+        let delay = CfgDelay(STOPPED);
+        self.delay = delay;
+        self.finish(out, end)
+    }
+
+    // START: the ring has `nodes` nodes, and its units are asked.
+    pub(crate) fn start(mut self, out: &mut [u8], nodes: u8) -> Recorded
+        requires { ⌜ (1 ≤ nodes) × (nodes ≤ 64) × (length (written (concluded (viewOf self) (respond (viewOf self) (START nodes)))) ≤ length (now out)) ⌝ }
+        ensures { λ r. ⌜ Does self (concluded (viewOf self) (respond (viewOf self) (START nodes))) (now (out .entry)) r (now (out .exit)) ⌝ }
+    {
+        if MAX_PASS <= self.pass {
+            return self.refuse(NO_PASS_LEFT);
+        }
+        self.units = nodes - 1;
+        let entries = image::new_entries();
+        self.entries = entries;
+        self.scan(out, 0)
+    }
+
+    // NCE: the same, with the order NOTOK first.
+    pub(crate) fn network_change(mut self, out: &mut [u8], nodes: u8) -> Recorded
+        requires { ⌜ (1 ≤ nodes) × (nodes ≤ 64) × (length (written (concluded (viewOf self) (respond (viewOf self) (NCE nodes)))) ≤ length (now out)) ⌝ }
+        ensures { λ r. ⌜ Does self (concluded (viewOf self) (respond (viewOf self) (NCE nodes))) (now (out .entry)) r (now (out .exit)) ⌝ }
+    {
+        if MAX_PASS <= self.pass {
+            return self.refuse(NO_PASS_LEFT);
+        }
+        let at = order::write_notice(out, 0, self.pass + 1, Notice::NotOk);
+        self.units = nodes - 1;
+        let entries = image::new_entries();
+        self.entries = entries;
+        self.scan(out, at)
+    }
+
+    // SHUTDOWN: everything is emptied but the pass and L.
+    pub(crate) fn shut_down(self, out: &mut [u8]) -> Recorded
+        ensures { λ r. ⌜ Does self (concluded (viewOf self) (respond (viewOf self) SHUTDOWN)) (now (out .entry)) r (now (out .exit)) ⌝ }
+    {
+        Recorded {
+            answer: RecordAnswer::Taken(0),
+            picture: RegistryImage::stopped(self.pass, self.size),
+        }
+    }
+
+    // DELAY: the delay ends, and every SILENT node is asked.
+    pub(crate) fn delay_expired(mut self, out: &mut [u8], pass: u32) -> Recorded
+        requires { ⌜ length (written (concluded (viewOf self) (respond (viewOf self) (DELAY pass)))) ≤ length (now out) ⌝ }
+        ensures { λ r. ⌜ Does self (concluded (viewOf self) (respond (viewOf self) (DELAY pass))) (now (out .entry)) r (now (out .exit)) ⌝ }
+    {
+        if pass != self.pass {
+            return self.refuse(WRONG_PASS);
+        }
+        let came = self.delay;
+        if came.0 == STOPPED {
+            return self.refuse(NOT_ASKED);
+        }
+        let units = self.units as usize;
+        let before = self.entries;
+        let end = told::write_asks(out, 0, pass, Which::Silent, units, before);
+        let entries = changes::all_asked(units, before);
+        self.entries = entries;
+        let delay = CfgDelay(STOPPED);
+        self.delay = delay;
+        self.finish(out, end)
+    }
+}

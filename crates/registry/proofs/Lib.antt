@@ -9,3 +9,4 @@ pub mod Seats
 pub mod Places
 pub mod Refusing
 pub mod Announcing
+pub mod Stepping

@@ -2,9 +2,12 @@
 use Prim.Native.Nat.{ℕ}
 use mathlib.Core.Path.{_≡_, refl}
 use mathlib.Core.Bool.{Bool, true, false, cond, _||_}
+use mathlib.Core.List.{List, []}
 use lib.Dec.{eqb}
+use lib.ListN.{getD}
 use Rattle.rules.specs.Picture.{State, Off, NotOk, Ok}
 use Rattle.registry.specs.View.{stateOf}
+use Rattle.registry.specs.Outcome.{stateRow}
 
 pub by-state : {X : Type 0} (f : State → X) (m : ℕ) → f (stateOf m) ≡ cond (eqb m 0) (f Off) (cond (eqb m 1) (f NotOk) (f Ok))
 unfolding stateOf
@@ -22,3 +25,14 @@ cond-same false x = refl
 pub or-none : (b : Bool) → (b || false) ≡ b
 or-none true = refl
 or-none false = refl
+
+-- a table with a row for each state, at one kind
+pub by-row : (table : List (List ℕ)) (k : ℕ) (f : State → ℕ) → getD (getD table 0 []) k 0 ≡ f Off → getD (getD table 1 []) k 0 ≡ f NotOk → getD (getD table 2 []) k 0 ≡ f Ok
+    → (m : ℕ) → getD (getD table (stateRow m) []) k 0 ≡ f (stateOf m)
+unfolding stateRow stateOf
+by-row table k f o n y m = go (eqb m 0) (eqb m 1)
+  where
+    go : (a b : Bool) → getD (getD table (cond a 0 (cond b 1 2)) []) k 0 ≡ f (cond a Off (cond b NotOk Ok))
+    go true b = o
+    go false true = n
+    go false false = y

@@ -4,10 +4,12 @@ use mathlib.Core.Path.{_≡_}
 use mathlib.Core.Bool.{Bool, true, false, cond, _&&_, _||_}
 use mathlib.Core.List.{List, [], _∷_, _++_, map}
 use mathlib.Core.Option.{Option, none, some}
+use lib.Dec.{eqb}
 use lib.ListN.{length}
 use lib.Seq.{sets}
 use Rattle.rules.specs.Picture.{Picture, State, isOk, Pair, Row, fresh, withDelay, isOpen, seatAt, others, put}
-use Rattle.rules.specs.Event.{Event}
+use Rattle.rules.specs.House.{maxNodes}
+use Rattle.rules.specs.Event.{Event, START, NCE, SHUTDOWN, ANSWER, NONE, DELAY}
 use Rattle.rules.specs.Order.{Order, NOTOK, NEW, INVALID, encodeAll}
 use Rattle.rules.specs.Step.{Response, refuse, change, respond, takes, notTaken, asks, scanned, scan, changeRows, counted, atLimit, emptied, onCounted, conflict, verdict, answer, keepAnswer}
 use Rattle.rules.specs.Ending.{settled, okOrder, waits, waitOrder, tell, lost, gained, tellRows}
@@ -82,6 +84,20 @@ rowsTold s size bs cs = cond (isOk s) (tellRows INVALID lost size bs cs ++ tellR
 unfoldable pub respondTo : Picture → Option Event → Response
 respondTo p none = refuse 2
 respondTo p (some e) = respond p e
+
+-- the table's row for a state by its number
+unfoldable pub stateRow : ℕ → ℕ
+stateRow m = cond (eqb m 0) 0 (cond (eqb m 1) 1 2)
+
+-- what decoding grants: "N is 1 to 64"
+abbrev pub WellFormed : Option Event → Type 0
+WellFormed none = Unit {0}
+WellFormed (some (START n)) = (1 ≤ n) × (n ≤ maxNodes)
+WellFormed (some (NCE n)) = (1 ≤ n) × (n ≤ maxNodes)
+WellFormed (some SHUTDOWN) = Unit {0}
+WellFormed (some (ANSWER c x a ps)) = Unit {0}
+WellFormed (some (NONE c x)) = Unit {0}
+WellFormed (some (DELAY c)) = Unit {0}
 
 -- 2, 3, 4, or 0 where the table takes the event
 unfoldable pub refusalOf : State → Option Event → ℕ

@@ -1,11 +1,11 @@
 -- One turn of a loop over the entries, and its end: every entry changed, or something looked for.
 use Prim.Native.Nat.{ℕ, _+_, _<_, _≤_, min}
 use mathlib.Core.Path.{_≡_, refl, sym, _∙_, ap}
-use mathlib.Core.Bool.{Bool, _||_}
-use mathlib.Core.List.{List, map}
+use mathlib.Core.Bool.{Bool, true, false, cond, _||_}
+use mathlib.Core.List.{List, [], _∷_, map}
 use native.Mathlib.Omega.{arith}
 use lib.ListN.{length, getD, set, drop}
-use Rattle.laws.specs.Lists.{any}
+use Rattle.laws.specs.Lists.{any, select}
 use Rattle.laws.specs.Views.{mapFrom, mapFrom-on, mapFrom-end, any-on, any-end}
 use Rattle.rules.specs.Picture.{Row, newRow}
 use Rattle.node.specs.declared.entry.NodeEntry.{NodeEntry}
@@ -29,3 +29,28 @@ module _ (k i : ℕ) (es : List NodeEntry) (full : length es ≡ 63) where
 
   pub seen-end : (f : Row → Bool) (b : Bool) {whole : Bool} → min k 63 ≤ i → (b || any f (drop i (rowsOf k es))) ≡ whole → b ≡ whole
   seen-end f b l w = any-end f b (rows-past es full k i l) w
+
+-- a count of those that pass a test
+one-few : (f : Row → Bool) (x : Row) → length (select f (x ∷ [])) ≤ 1
+unfolding select
+one-few f x = go (f x)
+  where
+    go : (b : Bool) → length (cond b (x ∷ []) []) ≤ 1
+    go true = omega arith
+    go false = omega arith
+
+pub count-on : (f : Row → Bool) (n m whole : ℕ) {x : Row} {xs rest : List Row} → xs ≡ x ∷ rest → m ≡ n + length (select f (x ∷ [])) → n + length (select f xs) ≡ whole
+    → (m + length (select f rest) ≡ whole) × (m ≤ n + 1)
+unfolding select
+count-on f n m whole {x} {xs} {rest} e h w =
+    let c = go (f x) in
+    let l = one-few f x in
+    let s = ap (λ (l : List Row). length (select f l)) e in (omega (arith, h, w, c, s), omega (arith, h, l))
+  where
+    go : (b : Bool) → length (cond b (x ∷ select f rest) (select f rest)) ≡ length (cond b (x ∷ []) []) + length (select f rest)
+    go true = omega arith
+    go false = omega arith
+
+pub count-end : (f : Row → Bool) (n whole : ℕ) {xs : List Row} → xs ≡ [] → n + length (select f xs) ≡ whole → n ≡ whole
+unfolding select
+count-end f n whole e w = omega (arith, w, ap (λ (l : List Row). length (select f l)) e)

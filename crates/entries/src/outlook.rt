@@ -1,7 +1,10 @@
 // What the entries leave open: questions, and silent nodes.
 ghost use mathlib.Core.Path.{_≡_};
 ghost use mathlib.Core.Bool.{_||_};
-ghost use Rattle.laws.specs.Lists.{any};
+ghost use mathlib.Core.List.{[], _∷_};
+ghost use Prim.Native.Nat.{_+_, _<_};
+ghost use lib.ListN.{length};
+ghost use Rattle.laws.specs.Lists.{any, select};
 ghost use Rattle.rules.specs.Picture.{isOpen, isSilent};
 ghost use Rattle.node.specs.View.{rowOf, rowsOf};
 ghost use Rattle.entries.specs.Tests.{isShort};
@@ -65,4 +68,29 @@ pub fn outlook_of(count: usize, entries: [NodeEntry; 63]) -> Outlook
         i += 1;
     }
     seen
+}
+
+// So many open questions, and one more if this entry's is open.
+fn with_open(count: usize, entry: NodeEntry) -> usize
+    requires { ⌜ count < 63 ⌝ }
+    ensures { λ r. ⌜ r ≡ count + length (select isOpen (rowOf entry ∷ [])) ⌝ }
+{
+    if entry.is_open() {
+        return count + 1;
+    }
+    count
+}
+
+// How many questions of the first `count` entries are open.
+pub fn open_count(count: usize, entries: [NodeEntry; 63]) -> usize
+    ensures { λ r. ⌜ r ≡ length (select isOpen (rowsOf count entries)) ⌝ }
+{
+    let n = node::entry::clamp(count);
+    let mut open = 0;
+    let mut i = 0;
+    while i < n {
+        open = with_open(open, entries[i]);
+        i += 1;
+    }
+    open
 }

@@ -6,6 +6,7 @@ ghost use Rattle.listing.specs.View.{lookupOf};
 use node::address::LogicalNodeAddress;
 use node::address::NodePosition;
 use node::entry::NodeEntry;
+use node::entry::clamp;
 
 pub const NOT_LISTED: u8 = 17;
 
@@ -63,5 +64,21 @@ impl Lookup {
 pub fn find(count: usize, entries: [NodeEntry; 63], block: u8, number: u8) -> Lookup
     ensures { λ r. ⌜ lookupOf r ≡ firstOf (pairOf block number) (entriesFrom 1 (rowsOf count entries)) ⌝ }
 {
+    let n = clamp(count);
+    let mut i = 0;
+    while i < n {
+        let entry = entries[i];
+        let pairs = entry.pairs();
+        let address = entry.address;
+        if pairs.holds(block, number) {
+            let before = i as u8;
+            let position = before + 1;
+            return Lookup::Found {
+                position: NodePosition(position),
+                address,
+            };
+        }
+        i += 1;
+    }
     Lookup::Refused(NOT_LISTED)
 }

@@ -2,7 +2,7 @@
 ghost use mathlib.Core.Path.{_≡_};
 ghost use mathlib.Core.List.{List, []};
 ghost use Prim.Native.Nat.{min};
-ghost use Rattle.rules.specs.Picture.{Row, WAITING, isOpen, isSilent, isIgnored, keeps, keepsOther, bars, pairsIn, newRow};
+ghost use Rattle.rules.specs.Picture.{Row, WAITING, isOpen, isSilent, isIgnored, keeps, keepsOther, bars, pairsIn, newRow, noRow};
 ghost use Rattle.rules.specs.Renumber.{placeOf, triesOf};
 ghost use Rattle.rules.specs.Step.{silenced, asked, ignored, counted, atLimit, emptied};
 ghost use Rattle.node.specs.View.{pairsOf, statusOf, rowOf, isListed};
@@ -92,6 +92,13 @@ impl NodeEntry {
         ensures { λ r. ⌜ rowOf r ≡ newRow ⌝ }
     {
         NodeEntry::waiting(0, 0)
+    }
+
+    // What stands for a position that the ring does not have: IGNORED, for address 0.
+    pub fn absent() -> Self
+        ensures { λ r. ⌜ rowOf r ≡ noRow ⌝ }
+    {
+        NodeEntry::bare(IGNORED, LogicalNodeAddress(0), 0, 0)
     }
 
     // An entry that keeps an address and pairs: LISTED, or SETTING with the place and the tries of its renumbering.

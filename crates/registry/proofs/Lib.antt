@@ -10,3 +10,4 @@ pub mod Places
 pub mod Refusing
 pub mod Announcing
 pub mod Stepping
+pub mod Following

@@ -1,12 +1,13 @@
 -- A position of the code's picture: its entry, an entry stored there, the entries without it, and the entries counted with it.
-use Prim.Native.Nat.{ℕ, suc, _-_, _<_, _≤_, min}
+use Prim.Native.Nat.{ℕ, zero, suc, _-_, _<_, _≤_, min}
 use mathlib.Core.Path.{_≡_, refl, sym, _∙_, ap}
 use mathlib.Core.Bool.{Bool, true, false, cond, _&&_}
 use mathlib.Core.List.{List, [], _∷_, _++_, map, append-nil}
 use native.Mathlib.Omega.{arith}
+use native.Mathlib.Nat.{not-suc-le-zero, le-of-suc-le-suc}
 use lib.ListN.{length, getD, set, replicate, length-map}
 use Rattle.laws.specs.Lists.{any, collect}
-use Rattle.rules.specs.Picture.{Picture, State, isOk, Pair, Row, noRow, newRow, holds, keptBy, pairsOf, pairsIn, withRows, seatAt, others, put}
+use Rattle.rules.specs.Picture.{Picture, State, isOk, Pair, Row, noRow, newRow, holds, keptBy, pairsOf, pairsIn, withRows, rowAt, seatAt, others, put}
 use Rattle.rules.specs.Order.{Order}
 use Rattle.rules.specs.Renumber.{Judged, judge, goods, Renumbering, renumber, freeNumber, placeOf, triesOf}
 use Rattle.rules.specs.Step.{Change, changeRows, onCounted, statusAfter, setOrder, judgedFor, renumberingFor, listedRow, keepAnswer}
@@ -141,3 +142,22 @@ module _ (s : RegistryImage) (x : ℕ) (h : Seat s x) (a : ℕ) (ann : Pairs) (b
   keep-row k f =
       listed-row (rowsOf (s .units) (s .entries)) x _ (node.pairsOf ann) (pairs-others s x h b new) all-judged own-place own-tries rn a k
       (ap (λ (r : Row). r .bad) (sym (seat-entry s x h d))) f
+
+-- the row of any position
+pub row-there : (s : RegistryImage) (x : ℕ) (h : Seat s x) (d : NodeEntry) → rowOf (getD (s .entries) (x - 1) d) ≡ rowAt (rowsOf (s .units) (s .entries)) x
+unfolding rowAt
+row-there s x h d = entry-row s x h d ∙ sym (ap (rowAt (rowsOf (s .units) (s .entries))) (index s x h))
+
+past-end : (xs : List Row) (i : ℕ) (d : Row) → length xs ≤ i → getD xs i d ≡ d
+past-end [] i d h = refl
+past-end (x ∷ xs) zero d h = absurd (not-suc-le-zero h)
+past-end (x ∷ xs) (suc i) d h = past-end xs i d (le-of-suc-le-suc h)
+
+pub row-beyond : (rs : List Row) (x : ℕ) → length rs < x → noRow ≡ rowAt rs x
+unfolding rowAt
+row-beyond rs zero h = refl
+row-beyond rs (suc i) h = sym (past-end rs i noRow (omega arith))
+
+pub row-zero : (rs : List Row) {x : ℕ} → x ≡ 0 → noRow ≡ rowAt rs x
+unfolding rowAt
+row-zero rs e = sym (ap (rowAt rs) e)

@@ -42,7 +42,7 @@ module _ (p q : Picture) {n : ℕ} (e : n ≡ suc (p .pass)) (f : q ≡ scanned 
     pub scans : {r : Recorded} {d : List ℕ} → q .pass ≡ n → Ends q m i r d → Scans p b at r d
     scans {r} {d} g h =
         let x = wrote-orders n (asks isOpen 1 (p .rows)) (endOrders q) w
-            (record { buffer = h .buffer ∙ ap (λ (k : ℕ). sets m i (encodeAll k (endOrders q))) g; place = refl }) in
+        (record { buffer = h .buffer ∙ ap (λ (k : ℕ). sets m i (encodeAll k (endOrders q))) g; place = refl }) in
         let l : encodeAll n (asks isOpen 1 (p .rows) ++ endOrders q) ≡ encodeAll (suc (p .pass)) (scanOrders p) = (λ j. encodeAll (e j) (asks isOpen 1 (p .rows) ++ endOrders (f j))) in
         record {
           picture = h .picture ∙ ap ended f;

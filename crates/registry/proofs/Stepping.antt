@@ -163,3 +163,7 @@ refusal-same s (events.Answer c x a) ps = go s
     go Ok = refl
 refusal-same s (events.NoAnswer c x) ps = refl
 refusal-same s (events.DelayExpired c) ps = refl
+
+pub reached-fresh : {p : Picture} (l : ℕ) → p ≡ fresh l → Reached p
+unfolding after
+reached-fresh l e = record { size = l; records = []; made = e }

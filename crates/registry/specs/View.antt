@@ -16,6 +16,11 @@ use Rattle.registry.specs.declared.image.MakeAnswer.the-variants as make
 unfoldable pub stateOf : ℕ → State
 stateOf m = cond (eqb m 0) Off (cond (eqb m 1) NotOk Ok)
 
+unfoldable pub stateNumber : State → ℕ
+stateNumber Off = 0
+stateNumber NotOk = 1
+stateNumber Ok = 2
+
 -- a delay by its number: 0 where none runs
 unfoldable pub runs : ℕ → Bool
 runs m = not (eqb m 0)

@@ -9,6 +9,14 @@ ghost use Rattle.rules.specs.Run.{concluded, written};
 ghost use Rattle.node.specs.View.{rowOf, pairsOf};
 ghost use Rattle.registry.specs.View.{viewOf};
 ghost use Rattle.registry.specs.Outcome.{Does, Seat, replaceOutcome, announceOutcome, conflictOutcome, ignoreOutcome, restartOutcome, keepOutcome, othersAtLimit};
+use super::image::NOTOK;
+use super::image::RegistryImage;
+use super::notes;
+use super::record::Recorded;
+use super::scan::MAX_PASS;
+use super::scan::NO_PASS_LEFT;
+use super::scan::NOT_ASKED;
+use super::scan::WRONG_PASS;
 use entries::changes;
 use entries::claims;
 use node::address::LogicalNodeAddress;
@@ -20,14 +28,6 @@ use numbering::judge;
 use numbering::renumber;
 use records::order;
 use records::order::Notice;
-use super::image::NOTOK;
-use super::image::RegistryImage;
-use super::notes;
-use super::record::Recorded;
-use super::scan::MAX_PASS;
-use super::scan::NOT_ASKED;
-use super::scan::NO_PASS_LEFT;
-use super::scan::WRONG_PASS;
 
 pub const NO_SUCH_POSITION: u8 = 6;
 
@@ -137,8 +137,14 @@ impl RegistryImage {
         let marks = held::held_by(units, others, announced);
         let good = judge::judge(marks, announced);
         let kept = judge::good_pairs(announced, good);
-        let step =
-            renumber::renumber_from(units, others, announced, good, entry.place(), entry.tries());
+        let step = renumber::renumber_from(
+            units,
+            others,
+            announced,
+            good,
+            entry.place(),
+            entry.tries(),
+        );
         let next = notes::registered(address, kept, step, entry.bad);
         let state = self.state;
         let told = notes::tell_entry(out, self.pass, state, self.size, entry, next);

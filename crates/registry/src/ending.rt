@@ -9,9 +9,6 @@ ghost use Rattle.rules.specs.Picture.{Ok, isNotOk, isOk};
 ghost use Rattle.rules.specs.Order.{OK, WAIT-SHORT, WAIT-LONG, encodeAll};
 ghost use Rattle.registry.specs.View.{stateOf, runs, viewOf};
 ghost use Rattle.registry.specs.Outcome.{endOrders, Ends};
-use entries::outlook;
-use records::order;
-use records::order::Notice;
 use super::image::CfgDelay;
 use super::image::NOTOK;
 use super::image::OFF;
@@ -22,6 +19,9 @@ use super::image::RegistryState;
 use super::image::STOPPED;
 use super::record::RecordAnswer;
 use super::record::Recorded;
+use entries::outlook;
+use records::order;
+use records::order::Notice;
 
 // A scan is over: it runs, and no question is open.
 fn becomes_ok(state: RegistryState, open: bool) -> bool

@@ -4,6 +4,7 @@ ghost use mathlib.Core.Bool.{false};
 ghost use mathlib.Core.List.{[]};
 ghost use Rattle.rules.specs.Picture.{Picture, Off, fresh, freshNumber};
 ghost use Rattle.registry.specs.View.{viewOf, AllNew, makeNumberOf};
+ghost use Rattle.registry.specs.Outcome.{Reached};
 use node::entry::NodeEntry;
 
 // The registry's state by its number.
@@ -94,7 +95,7 @@ impl RegistryImage {
 
     // A fresh picture for L; 10 where L is outside 12 to 45, and then one for 12.
     pub fn fresh(l: usize) -> MadeImage
-        ensures { λ r. ⌜ (makeNumberOf (r .answer) ≡ freshNumber l) × (viewOf (r .picture) ≡ fresh l) ⌝ }
+        ensures { λ r. ⌜ (makeNumberOf (r .answer) ≡ freshNumber l) × (viewOf (r .picture) ≡ fresh l) × Reached (viewOf (r .picture)) ⌝ }
     {
         if l < MIN_SIZE {
             return MadeImage {

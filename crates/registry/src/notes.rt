@@ -10,6 +10,9 @@ ghost use Rattle.node.specs.View.{rowOf, rowsOf, pairsOf};
 ghost use Rattle.numbering.specs.Marks.{renumberingOf};
 ghost use Rattle.registry.specs.View.{stateOf};
 ghost use Rattle.registry.specs.Outcome.{rowTold, rowsTold};
+use super::image::NOTOK;
+use super::image::OFF;
+use super::image::RegistryState;
 use node::address::LogicalNodeAddress;
 use node::address::NodePosition;
 use node::entry::LISTED;
@@ -20,9 +23,6 @@ use numbering::renumber::Renumbering;
 use records::order;
 use records::order::Delta;
 use records::told;
-use super::image::NOTOK;
-use super::image::OFF;
-use super::image::RegistryState;
 
 // The state is OK.
 pub(crate) fn is_ok(state: RegistryState) -> bool

@@ -8,13 +8,13 @@ ghost use Rattle.node.specs.View.{pairsOf};
 ghost use Rattle.records.specs.View.{eventOf};
 ghost use Rattle.registry.specs.View.{stateOf, viewOf};
 ghost use Rattle.registry.specs.Outcome.{answerNumberOf, answerLengthOf, stateRow, refusalOf, respondTo, WellFormed, Does, Reached};
-use node::pairs::Pairs;
-use records::event;
-use records::event::Event;
 use super::image::NOTOK;
 use super::image::OFF;
 use super::image::RegistryImage;
 use super::image::RegistryState;
+use node::pairs::Pairs;
+use records::event;
+use records::event::Event;
 
 // The least room that orders are written to.
 pub const MIN_ROOM: usize = 512;

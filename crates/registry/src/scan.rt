@@ -8,11 +8,6 @@ ghost use Rattle.rules.specs.Step.{respond};
 ghost use Rattle.rules.specs.Run.{concluded, written};
 ghost use Rattle.registry.specs.View.{viewOf};
 ghost use Rattle.registry.specs.Outcome.{scanOrders, Scans, Does};
-use entries::changes;
-use records::order;
-use records::order::Notice;
-use records::told;
-use records::told::Which;
 use super::image;
 use super::image::CfgDelay;
 use super::image::NOTOK;
@@ -21,6 +16,11 @@ use super::image::RegistryState;
 use super::image::STOPPED;
 use super::record::RecordAnswer;
 use super::record::Recorded;
+use entries::changes;
+use records::order;
+use records::order::Notice;
+use records::told;
+use records::told::Which;
 
 // The last pass.
 pub const MAX_PASS: u32 = 4294967295;

@@ -173,7 +173,7 @@ fn cut_part(l: usize, msg_id: u32, payload: &[u8], number: usize, buffer: &mut [
         part_id(before, left, most),
         (1 + size) as u32,
     );
-    buffer[COUNTER] = telegram::low(before as u32);
+    buffer[COUNTER] = octets::low(before as u32);
     telegram::store(buffer, COUNTER + 1, &payload[from..from + size]);
     CutAnswer::Length(COUNTER + 1 + size)
 }

@@ -1,7 +1,7 @@
 // The bytes of one telegram: its head written and read, and its part of the message copied.
 ghost use mathlib.Core.Path.{_≡_};
 ghost use mathlib.Core.List.{_++_};
-ghost use Prim.Native.Nat.{_+_, _*_, _/_, _%_, _≤_, _<_};
+ghost use Prim.Native.Nat.{_+_, _*_, _/_, _≤_, _<_};
 ghost use lib.ListN.{length};
 ghost use lib.Seq.{sets};
 ghost use Rattle.rules.specs.Event.{be4, four};
@@ -33,13 +33,6 @@ pub(crate) fn store(buffer: &mut [u8], at: usize, part: &[u8])
     }
 }
 
-// The last byte of a number.
-pub(crate) fn low(n: u32) -> u8
-    ensures { λ r. ⌜ r ≡ n % 256 ⌝ }
-{
-    (n & 0xFF) as u8
-}
-
 // TelID and the high bits of TelLen in one byte.
 fn pack(tel_id: u32, tel_len: u32) -> u8
     requires { ⌜ («tel_id» < 16) × («tel_len» < 4096) ⌝ }
@@ -53,20 +46,9 @@ pub(crate) fn write_head(buffer: &mut [u8], msg_id: u32, tel_id: u32, tel_len: u
     requires { ⌜ (6 ≤ length (now buffer)) × («tel_id» < 16) × («tel_len» < 4096) ⌝ }
     ensures { λ _. ⌜ now (buffer .exit) ≡ sets (now (buffer .entry)) 0 (four «msg_id» ++ headBytes «tel_id» «tel_len») ⌝ }
 {
-    let high = msg_id >> 16;
-    buffer[0] = low(high >> 8);
-    buffer[1] = low(high);
-    buffer[2] = low(msg_id >> 8);
-    buffer[3] = low(msg_id);
+    octets::write4(buffer, 0, msg_id);
     buffer[4] = pack(tel_id, tel_len);
-    buffer[5] = low(tel_len);
-}
-
-// Two bytes as one number.
-fn word(high: u8, low: u8) -> u32
-    ensures { λ r. ⌜ (r ≡ high * 256 + low) × (r < 65536) ⌝ }
-{
-    (high as u32) << 8 | low as u32
+    buffer[5] = octets::low(tel_len);
 }
 
 // The MsgID of a telegram.
@@ -74,9 +56,7 @@ pub(crate) fn msg_id(telegram: &[u8]) -> u32
     requires { ⌜ 6 ≤ length (now telegram) ⌝ }
     ensures { λ r. ⌜ r ≡ be4 (now (telegram .entry)) 0 ⌝ }
 {
-    let high = word(telegram[0], telegram[1]);
-    let low = word(telegram[2], telegram[3]);
-    high << 16 | low
+    octets::read4(telegram, 0)
 }
 
 // The TelID of a telegram.
@@ -92,7 +72,7 @@ pub(crate) fn tel_len(telegram: &[u8]) -> usize
     requires { ⌜ 6 ≤ length (now telegram) ⌝ }
     ensures { λ r. ⌜ (r ≡ telLenOf (now (telegram .entry))) × (r < 4096) ⌝ }
 {
-    word(telegram[4] & 0x0F, telegram[5]) as usize
+    octets::word(telegram[4] & 0x0F, telegram[5]) as usize
 }
 
 // The telegram is too short, its TelLen wrong or above L, or its counter byte missing.

@@ -1,49 +1,25 @@
--- `write_head` stores the six bytes of the head.
-use mathlib.Core.List.{[], _∷_}
-use native.Mathlib.Omega.{arith}
-use borrow.Author.Needs.{needs}
-use lib.Seq.{sets}
-use lib.ListN.{length-set}
-use Rattle.rules.specs.Event.{two, four}
+-- `write_head` stores the MsgID, and behind it the two other bytes of the head.
+use Rattle.rules.specs.Event.{four, two}
 use Rattle.rules.specs.Telegram.{headBytes}
+use borrow.Author.Needs.{needs}
+use lib.ListN.{set}
 use Rattle.transport.proofs.telegram.write_head.Statement.{statement}
 use Rattle.transport.proofs.telegram.write_head.Tie as tie
 
-low-requires : tie.Need-low-requires
-low-requires c κs = search needs
-
-slice-write-buffer : tie.Need-slice-write-buffer
-slice-write-buffer c = search needs
-
-low-requires-2 : tie.Need-low-requires-2
-low-requires-2 c κs = search needs
-
-slice-write-buffer-2 : tie.Need-slice-write-buffer-2
-slice-write-buffer-2 c = simp length-set (omega arith)
-
-low-requires-3 : tie.Need-low-requires-3
-low-requires-3 c κs = search needs
-
-slice-write-buffer-3 : tie.Need-slice-write-buffer-3
-slice-write-buffer-3 c = simp length-set (omega arith)
-
-low-requires-4 : tie.Need-low-requires-4
-low-requires-4 c κs = search needs
-
-slice-write-buffer-4 : tie.Need-slice-write-buffer-4
-slice-write-buffer-4 c = simp length-set (omega arith)
+write4-requires : tie.Need-write4-requires
+write4-requires c κs = search needs
 
 pack-requires : tie.Need-pack-requires
 pack-requires c κs = search needs
 
-slice-write-buffer-5 : tie.Need-slice-write-buffer-5
-slice-write-buffer-5 c = simp length-set (omega arith)
+slice-write-buffer : tie.Need-slice-write-buffer
+slice-write-buffer c = search needs
 
-low-requires-5 : tie.Need-low-requires-5
-low-requires-5 c κs = search needs
+low-requires : tie.Need-low-requires
+low-requires c κs = search needs
 
-slice-write-buffer-6 : tie.Need-slice-write-buffer-6
-slice-write-buffer-6 c = search needs
+slice-write-buffer-2 : tie.Need-slice-write-buffer-2
+slice-write-buffer-2 c = search needs
 
 same-length : tie.Need-same-length
 same-length c = search needs
@@ -51,26 +27,18 @@ same-length c = search needs
 returns : tie.Need-returns
 unfolding four two headBytes
 returns c =
-    let p = c .before in
-    let l = p .before in
-    let m = l .before .before in
-    λ i. sets (m .before .before .before .args .buffer .now) 0 (m .before .low .ensures i ∷ m .low2 .ensures i ∷ l .before .low3 .ensures i ∷ l .low4 .ensures i ∷ p .pack .ensures i ∷ c .low5 .ensures i ∷ [])
+    let at-pack = c .before in
+    let at-write4 = at-pack .before .before .before in
+    λ i. set (set (at-write4 .write4 .ensures i) 4 (at-pack .pack .ensures i)) 5 (c .low .ensures i)
 
 pub write-head-spec : {M : Type 1} → statement M
 write-head-spec =
     tie.close
     (tie.spec
-    low-requires
-    slice-write-buffer
-    low-requires-2
-    slice-write-buffer-2
-    low-requires-3
-    slice-write-buffer-3
-    low-requires-4
-    slice-write-buffer-4
+    write4-requires
     pack-requires
-    slice-write-buffer-5
-    low-requires-5
-    slice-write-buffer-6
+    slice-write-buffer
+    low-requires
+    slice-write-buffer-2
     same-length
     returns)

@@ -1,8 +1,10 @@
 -- The two limits.
+use Rattle.registry.proofs.Stepping.{reached-fresh}
+use Rattle.registry.specs.View.{viewOf}
 use Rattle.rules.specs.Picture.{fresh, freshNumber, legalSize}
 use borrow.Author.Needs.{needs}
 use borrow.Author.Tests.{le-leb, lt-leb}
-use mathlib.Core.Path.{refl}
+use mathlib.Core.Path.{_≡_, refl}
 use Rattle.registry.proofs.image.RegistryImage.fresh.Statement.{statement}
 use Rattle.registry.proofs.image.RegistryImage.fresh.Tie as tie
 
@@ -16,7 +18,8 @@ returns : tie.Need-returns
 unfolding freshNumber fresh legalSize
 returns c =
     let at-if1 = c .before in
-    simp (lt-leb _ _ (at-if1 .if1 .taken)) (refl, c .stopped .ensures)
+    let start = at-if1 .before in
+    let e : viewOf (c .stopped .result) ≡ fresh (start .args .l) = simp (lt-leb _ _ (at-if1 .if1 .taken)) (c .stopped .ensures) in (simp (lt-leb _ _ (at-if1 .if1 .taken)) refl, e, reached-fresh (start .args .l) e)
 
 cast-stopped-2 : tie.Need-cast-stopped-2
 cast-stopped-2 c = search needs
@@ -29,7 +32,8 @@ unfolding freshNumber fresh legalSize
 returns-2 c =
     let at-if2 = c .before in
     let at-if1 = at-if2 .before in
-    simp (le-leb _ _ (at-if1 .if1 .left), lt-leb _ _ (at-if2 .if2 .taken)) (refl, c .stopped2 .ensures)
+    let start = at-if1 .before in
+    let e : viewOf (c .stopped2 .result) ≡ fresh (start .args .l) = simp (le-leb _ _ (at-if1 .if1 .left), lt-leb _ _ (at-if2 .if2 .taken)) (c .stopped2 .ensures) in (simp (le-leb _ _ (at-if1 .if1 .left), lt-leb _ _ (at-if2 .if2 .taken)) refl, e, reached-fresh (start .args .l) e)
 
 cast-stopped-3 : tie.Need-cast-stopped-3
 cast-stopped-3 c = search needs
@@ -42,7 +46,8 @@ unfolding freshNumber fresh legalSize
 returns-3 c =
     let at-if2 = c .before in
     let at-if1 = at-if2 .before in
-    simp (le-leb _ _ (at-if1 .if1 .left), le-leb _ _ (at-if2 .if2 .left)) (refl, c .stopped3 .ensures)
+    let start = at-if1 .before in
+    let e : viewOf (c .stopped3 .result) ≡ fresh (start .args .l) = simp (le-leb _ _ (at-if1 .if1 .left), le-leb _ _ (at-if2 .if2 .left)) (c .stopped3 .ensures) in (simp (le-leb _ _ (at-if1 .if1 .left), le-leb _ _ (at-if2 .if2 .left)) refl, e, reached-fresh (start .args .l) e)
 
 pub fresh-spec : {M : Type 1} → statement M
 fresh-spec =

@@ -1,0 +1,67 @@
+-- A run of calls has the rules' pictures, answers and orders.
+use Prim.Native.Nat.{ℕ, zero, suc, _<_}
+use mathlib.Core.Path.{_≡_, refl, sym, _∙_, ap}
+use mathlib.Core.List.{List, [], _∷_, map}
+use native.Mathlib.Nat.{not-suc-le-zero, le-of-suc-le-suc}
+use lib.ListN.{length, getD, take}
+use Rattle.rules.specs.Picture.{Picture, fresh}
+use Rattle.rules.specs.Run.{Record, offered, step, left, lent, next, after}
+use Rattle.rules.specs.Claims.{pictureAt, recordAt}
+use Rattle.rules.proofs.Demand3.{demand3}
+use Rattle.registry.specs.declared.image.RegistryImage.{RegistryImage}
+use Rattle.registry.specs.declared.record.RecordAnswer.{RecordAnswer}
+use Rattle.registry.specs.View.{viewOf}
+use Rattle.registry.specs.Outcome.{Handed, handed, expected, answerOf, Does}
+use Rattle.registry.specs.Calls.{Call, Calls, no-call, then-call, imageAt, recordOf, Follows, Promises}
+
+-- what one call leaves
+does-picture : {i : RegistryImage} (c : Call) → Does i (step (viewOf i) (c .bytes) (length (c .before))) (c .before) (c .result) (c .after)
+    → viewOf (c .result .picture) ≡ next (viewOf i) (recordOf c)
+unfolding handed expected recordOf
+does-picture c h = ap (λ (x : Handed). x .picture) (h .outcome)
+
+does-answer : {i : RegistryImage} (c : Call) → Does i (step (viewOf i) (c .bytes) (length (c .before))) (c .before) (c .result) (c .after)
+    → c .result .answer ≡ answerOf (offered (viewOf i) (recordOf c))
+unfolding handed expected recordOf
+does-answer c h = ap (λ (x : Handed). x .answer) (h .outcome)
+
+does-buffer : {i : RegistryImage} (c : Call) → Does i (step (viewOf i) (c .bytes) (length (c .before))) (c .before) (c .result) (c .after)
+    → c .after ≡ lent (c .before) (offered (viewOf i) (recordOf c))
+unfolding handed expected recordOf
+does-buffer c h = ap (λ (x : Handed). x .buffer) (h .outcome)
+
+pictures : (p : Picture) (i : RegistryImage) (cs : List Call) → viewOf i ≡ p → Calls i cs → (k : ℕ) → viewOf (imageAt i cs k) ≡ after p (take k (map recordOf cs))
+unfolding imageAt after
+pictures p i cs e h zero = e
+pictures p i [] e h (suc k) = e
+pictures p i (c ∷ cs) e (then-call d h) (suc k) =
+    pictures (next p (recordOf c)) (c .result .picture) cs (does-picture c d ∙ ap (λ (q : Picture). next q (recordOf c)) e) h k
+
+module _ (none : Record) where
+  answers : (p : Picture) (i : RegistryImage) (cs : List Call) → viewOf i ≡ p → Calls i cs → (k : ℕ) (c : Call) → k < length cs
+      → getD cs k c .result .answer ≡ answerOf (offered (after p (take k (map recordOf cs))) (getD (map recordOf cs) k none))
+  unfolding after
+  answers p i [] e h k c l = absurd (not-suc-le-zero l)
+  answers p i (b ∷ cs) e (then-call d h) zero c l = does-answer b d ∙ ap (λ (q : Picture). answerOf (offered q (recordOf b))) e
+  answers p i (b ∷ cs) e (then-call d h) (suc k) c l =
+      answers (next p (recordOf b)) (b .result .picture) cs (does-picture b d ∙ ap (λ (q : Picture). next q (recordOf b)) e) h k c (le-of-suc-le-suc l)
+
+  buffers : (p : Picture) (i : RegistryImage) (cs : List Call) → viewOf i ≡ p → Calls i cs → (k : ℕ) (c : Call) → k < length cs
+      → getD cs k c .after ≡ lent (getD cs k c .before) (offered (after p (take k (map recordOf cs))) (getD (map recordOf cs) k none))
+  unfolding after
+  buffers p i [] e h k c l = absurd (not-suc-le-zero l)
+  buffers p i (b ∷ cs) e (then-call d h) zero c l = does-buffer b d ∙ ap (λ (q : Picture). lent (b .before) (offered q (recordOf b))) e
+  buffers p i (b ∷ cs) e (then-call d h) (suc k) c l =
+      buffers (next p (recordOf b)) (b .result .picture) cs (does-picture b d ∙ ap (λ (q : Picture). next q (recordOf b)) e) h k c (le-of-suc-le-suc l)
+
+pub promises : Promises
+unfolding pictureAt recordAt
+promises =
+    record {
+      follows = λ l i cs e h. record {
+        pictures = pictures (fresh l) i cs e h;
+        answers = answers _ (fresh l) i cs e h;
+        buffers = buffers _ (fresh l) i cs e h;
+        demand3 = demand3 l (map recordOf cs);
+      };
+    }

@@ -1,0 +1,32 @@
+-- The state first.
+use Rattle.registry.specs.View.{viewOf}
+use Rattle.rules.specs.Listing.{listing, lookUp}
+use borrow.Author.Needs.{needs}
+use mathlib.Core.Path.{_∙_, sym}
+use Rattle.registry.proofs.image.RegistryImage.look_up.Statement.{statement}
+use Rattle.registry.proofs.image.RegistryImage.look_up.Tie as tie
+
+is-ok-requires : tie.Need-is-ok-requires
+is-ok-requires c κs = search needs
+
+cast-find : tie.Need-cast-find
+cast-find c = search needs
+
+find-requires : tie.Need-find-requires
+find-requires c κs = search needs
+
+returns : tie.Need-returns
+unfolding viewOf lookUp listing
+returns c =
+    let at-if1 = c .before .before .before in
+    let at-is-ok = at-if1 .before in
+    simp (sym (at-is-ok .is-ok .ensures) ∙ at-if1 .if1 .taken) (c .find .ensures)
+
+returns-2 : tie.Need-returns-2
+unfolding viewOf lookUp
+returns-2 c =
+    let at-is-ok = c .before in
+    simp (sym (at-is-ok .is-ok .ensures) ∙ c .if1 .left)
+
+pub look-up-spec : {M : Type 1} → statement M
+look-up-spec = tie.close (tie.spec is-ok-requires cast-find find-requires returns returns-2)

@@ -1,0 +1,18 @@
+-- Of the entries of the ring.
+use Rattle.registry.specs.View.{viewOf}
+use borrow.Author.Needs.{needs}
+use Rattle.registry.proofs.image.RegistryImage.open_questions.Statement.{statement}
+use Rattle.registry.proofs.image.RegistryImage.open_questions.Tie as tie
+
+cast-open-count : tie.Need-cast-open-count
+cast-open-count c = search needs
+
+open-count-requires : tie.Need-open-count-requires
+open-count-requires c κs = search needs
+
+returns : tie.Need-returns
+unfolding viewOf
+returns c = c .open-count .ensures
+
+pub open-questions-spec : {M : Type 1} → statement M
+open-questions-spec = tie.close (tie.spec cast-open-count open-count-requires returns)

@@ -17,7 +17,7 @@ use Rattle.registry.specs.declared.record.Recorded.{Recorded}
 use Rattle.registry.specs.declared.record.RecordAnswer.the-variants as answers
 use Rattle.registry.specs.View.{viewOf}
 use Rattle.registry.specs.Outcome.{ended, endOrders, Ends}
-use Rattle.registry.proofs.Writing.{orders-length, wrote-orders}
+use Rattle.closing.proofs.Writing.{orders-length, wrote-orders}
 
 module _ (q : Picture) {opened silent short ok starts : Bool} {st : State} (o : opened ≡ any isOpen (q .rows)) (s : silent ≡ any isSilent (q .rows))
     (h : short ≡ any isShort (q .rows)) (k : ok ≡ isNotOk (q .state) && not opened) (t : st ≡ cond ok Ok (q .state))

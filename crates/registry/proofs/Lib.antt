@@ -1,6 +1,4 @@
 -- Laws that several functions' proofs use.
-pub mod States
-pub mod Writing
 pub mod Endings
 pub mod Doing
 pub mod Scanning

@@ -21,8 +21,10 @@ use Rattle.entries.specs.Tests.{countsFor, struck, struckIf}
 use Rattle.numbering.specs.Marks.{orEach, judgeMarked, judgedOf}
 use Rattle.numbering.proofs.Judging.{judge-marked}
 use Rattle.registry.specs.declared.image.RegistryImage.{RegistryImage}
-use Rattle.registry.specs.View.{stateOf, viewOf}
-use Rattle.registry.specs.Outcome.{Seat, rowTold, rowsTold}
+use Rattle.closing.specs.State.{stateOf}
+use Rattle.registry.specs.View.{viewOf}
+use Rattle.registry.specs.Outcome.{Seat}
+use Rattle.closing.specs.Told.{rowTold, rowsTold}
 use Rattle.registry.proofs.Telling.{told-put, told-rows}
 use Rattle.registry.proofs.Seats.{seat-row, seat-put, seat-any, seat-pairs, seat-counted}
 

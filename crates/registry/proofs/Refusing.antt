@@ -17,7 +17,8 @@ use Rattle.node.specs.declared.entry.NodeEntry.{NodeEntry}
 use Rattle.node.specs.View.{rowOf, rowsOf}
 use Rattle.node.proofs.Arrays.{rows-length}
 use Rattle.registry.specs.declared.image.RegistryImage.{RegistryImage}
-use Rattle.registry.specs.View.{stateOf, viewOf}
+use Rattle.closing.specs.State.{stateOf}
+use Rattle.registry.specs.View.{viewOf}
 use Rattle.registry.specs.Outcome.{Seat, replaceOutcome, announceOutcome}
 use Rattle.registry.proofs.Places.{seat-entry}
 

@@ -4,15 +4,14 @@ use mathlib.Core.Path.{_≡_}
 use mathlib.Core.Bool.{Bool, true, false, cond, _&&_, _||_}
 use mathlib.Core.List.{List, [], _∷_, _++_, map}
 use mathlib.Core.Option.{Option, none, some}
-use lib.Dec.{eqb}
 use lib.ListN.{length}
 use lib.Seq.{sets}
-use Rattle.rules.specs.Picture.{Picture, State, isOk, Pair, Row, fresh, withDelay, isOpen, seatAt, others, put}
+use Rattle.rules.specs.Picture.{Picture, State, Pair, Row, fresh, withDelay, isOpen, seatAt, others, put}
 use Rattle.rules.specs.House.{maxNodes}
 use Rattle.rules.specs.Event.{Event, START, NCE, SHUTDOWN, ANSWER, NONE, DELAY}
-use Rattle.rules.specs.Order.{Order, NOTOK, NEW, INVALID, encodeAll}
+use Rattle.rules.specs.Order.{Order, NOTOK, encodeAll}
 use Rattle.rules.specs.Step.{Response, refuse, change, respond, takes, notTaken, asks, scanned, scan, changeRows, counted, atLimit, emptied, onCounted, conflict, verdict, answer, keepAnswer}
-use Rattle.rules.specs.Ending.{settled, okOrder, waits, waitOrder, tell, lost, gained, tellRows}
+use Rattle.rules.specs.Ending.{settled, okOrder, waits, waitOrder}
 use Rattle.rules.specs.Run.{Outcome, refused, taken, concluded, left, lent, Record, after}
 use Rattle.laws.specs.Lists.{any}
 use Rattle.entries.specs.Tests.{countsFor, struck}
@@ -72,22 +71,10 @@ pub record Ends (q : Picture) (before : List ℕ) (at : ℕ) (r : Recorded) (aft
   pub answer : r .answer ≡ answers.Taken (at + length (encodeAll (q .pass) (endOrders q)))
   pub buffer : after ≡ sets before at (encodeAll (q .pass) (endOrders q))
 
--- what is told of one changed row
-unfoldable pub rowTold : State → (size : ℕ) → (before after : Row) → List Order
-rowTold s size b a = cond (isOk s) (tell INVALID size (lost b a) ++ tell NEW size (gained b a)) []
-
--- what is told of all rows
-unfoldable pub rowsTold : State → (size : ℕ) → (before after : List Row) → List Order
-rowsTold s size bs cs = cond (isOk s) (tellRows INVALID lost size bs cs ++ tellRows NEW gained size bs cs) []
-
 -- an event's own step, or 2 where the bytes are no event
 unfoldable pub respondTo : Picture → Option Event → Response
 respondTo p none = refuse 2
 respondTo p (some e) = respond p e
-
--- the table's row for a state by its number
-unfoldable pub stateRow : ℕ → ℕ
-stateRow m = cond (eqb m 0) 0 (cond (eqb m 1) 1 2)
 
 -- what decoding grants: "N is 1 to 64"
 abbrev pub WellFormed : Option Event → Type 0

@@ -5,28 +5,11 @@ ghost use mathlib.Core.List.{[]};
 ghost use Rattle.rules.specs.Picture.{Picture, Off, fresh, freshNumber};
 ghost use Rattle.registry.specs.View.{viewOf, AllNew, makeNumberOf};
 ghost use Rattle.registry.specs.Outcome.{Reached};
+use closing::state::CfgDelay;
+use closing::state::OFF;
+use closing::state::RegistryState;
+use closing::state::STOPPED;
 use node::entry::NodeEntry;
-
-// The registry's state by its number.
-#[repr(C)]
-pub struct RegistryState(pub u8);
-
-// The ring does not run.
-pub const OFF: u8 = 0;
-
-// The ring is being scanned.
-pub const NOTOK: u8 = 1;
-
-// The ring is registered.
-pub const OK: u8 = 2;
-
-// Whether a delay runs, by its number.
-#[repr(C)]
-pub struct CfgDelay(pub u8);
-
-pub const STOPPED: u8 = 0;
-
-pub const RUNNING: u8 = 1;
 
 // L, the payload size of a telegram.
 pub const MIN_SIZE: usize = 12;

@@ -1,5 +1,5 @@
 -- By the state's number.
-use Rattle.registry.specs.Outcome.{stateRow}
+use Rattle.closing.specs.State.{stateRow}
 use borrow.Author.Tests.{eq-eqb, ne-eqb}
 use native.Mathlib.Omega.{arith}
 use Rattle.registry.proofs.record.row_of.Statement.{statement}

@@ -1,7 +1,8 @@
 -- By the state's number.
 use Prim.Native.Nat.{ℕ}
-use Rattle.registry.proofs.States.{by-state}
-use Rattle.registry.specs.View.{stateNumber, viewOf}
+use Rattle.closing.proofs.States.{by-state}
+use Rattle.closing.specs.State.{stateNumber}
+use Rattle.registry.specs.View.{viewOf}
 use borrow.Author.Tests.{ne-eqb}
 use lib.Dec.{eqb}
 use mathlib.Core.Bool.{cond}

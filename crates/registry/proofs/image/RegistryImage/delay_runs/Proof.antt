@@ -1,5 +1,6 @@
 -- By the delay's number.
-use Rattle.registry.specs.View.{runs, viewOf}
+use Rattle.closing.specs.State.{runs}
+use Rattle.registry.specs.View.{viewOf}
 use borrow.Author.Tests.{eq-eqb, ne-eqb}
 use mathlib.Core.Bool.{not}
 use mathlib.Core.Path.{ap, sym}

@@ -5,9 +5,10 @@ use Rattle.numbering.specs.Marks.{renumberingOf}
 use Rattle.registry.proofs.Doing.{done, end-room, front-room}
 use Rattle.registry.proofs.Endings.{start-first, start-second}
 use Rattle.registry.proofs.Places.{front-keep, keep-renumbering, keep-row, put-entry}
-use Rattle.registry.proofs.Writing.{wrote-orders}
-use Rattle.registry.specs.Outcome.{rowTold}
-use Rattle.registry.specs.View.{runs, stateOf, viewOf}
+use Rattle.closing.proofs.Writing.{wrote-orders}
+use Rattle.closing.specs.Told.{rowTold}
+use Rattle.closing.specs.State.{runs, stateOf}
+use Rattle.registry.specs.View.{viewOf}
 use Rattle.rules.specs.Picture.{seatAt, withRows}
 use Rattle.rules.specs.Step.{keepAnswer, setOrder}
 use borrow.Author.Needs.{needs}

@@ -3,7 +3,8 @@ use Prim.Native.Nat.{_≤_}
 use Rattle.node.specs.View.{pairsOf}
 use Rattle.registry.proofs.Doing.{along, refuses}
 use Rattle.registry.proofs.Stepping.{reached-next, reached-room, reached-size, refusal-same, step-1, step-refused, step-taken, well-formed}
-use Rattle.registry.specs.View.{stateOf, viewOf}
+use Rattle.closing.specs.State.{stateOf}
+use Rattle.registry.specs.View.{viewOf}
 use Rattle.rules.specs.Run.{Outcome, written}
 use borrow.Author.Needs.{needs}
 use lib.ListN.{length}

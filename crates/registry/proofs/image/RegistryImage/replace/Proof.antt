@@ -2,7 +2,8 @@
 use Rattle.node.specs.View.{rowOf}
 use Rattle.registry.proofs.Doing.{done, end-room, front-room}
 use Rattle.registry.proofs.Places.{front-entry, put-entry}
-use Rattle.registry.specs.View.{runs, stateOf, viewOf}
+use Rattle.closing.specs.State.{runs, stateOf}
+use Rattle.registry.specs.View.{viewOf}
 use Rattle.rules.specs.Picture.{put, seatAt, withRows}
 use Rattle.rules.specs.Step.{changeRows}
 use borrow.Author.Needs.{needs}

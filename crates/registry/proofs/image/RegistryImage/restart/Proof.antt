@@ -2,7 +2,8 @@
 use Rattle.entries.specs.Tests.{countsFor, struck}
 use Rattle.registry.proofs.Places.{put-counted}
 use Rattle.registry.proofs.Scanning.{begins, first-room, notok-room, notok-wrote, second-room}
-use Rattle.registry.specs.View.{runs, stateOf, viewOf}
+use Rattle.closing.specs.State.{runs, stateOf}
+use Rattle.registry.specs.View.{viewOf}
 use Rattle.rules.specs.Order.{NOTOK}
 use Rattle.rules.specs.Picture.{seatAt, withRows}
 use Rattle.rules.specs.Step.{emptied, onCounted}

@@ -1,7 +1,8 @@
 -- No unit has an entry.
 use Rattle.laws.specs.Views.{firsts}
 use Rattle.node.specs.View.{rowsOf}
-use Rattle.registry.specs.View.{runs, stateOf, viewOf}
+use Rattle.closing.specs.State.{runs, stateOf}
+use Rattle.registry.specs.View.{viewOf}
 use borrow.Author.Needs.{needs}
 use mathlib.Core.Path.{refl}
 use Rattle.registry.proofs.image.RegistryImage.stopped.Statement.{statement}

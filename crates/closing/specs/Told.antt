@@ -1,0 +1,15 @@
+-- What is told where an event begins and ends in OK.
+use Prim.Native.Nat.{ℕ}
+use mathlib.Core.Bool.{cond}
+use mathlib.Core.List.{List, [], _++_}
+use Rattle.rules.specs.Picture.{State, isOk, Row}
+use Rattle.rules.specs.Order.{Order, NEW, INVALID}
+use Rattle.rules.specs.Ending.{tell, lost, gained, tellRows}
+
+-- what is told of one changed row
+unfoldable pub rowTold : State → (size : ℕ) → (before after : Row) → List Order
+rowTold s size b a = cond (isOk s) (tell INVALID size (lost b a) ++ tell NEW size (gained b a)) []
+
+-- what is told of all rows
+unfoldable pub rowsTold : State → (size : ℕ) → (before after : List Row) → List Order
+rowsTold s size bs cs = cond (isOk s) (tellRows INVALID lost size bs cs ++ tellRows NEW gained size bs cs) []

@@ -1,0 +1,99 @@
+// The ending of an event: OK, and the wait for silent nodes.
+ghost use mathlib.Core.Path.{_≡_};
+ghost use mathlib.Core.Bool.{cond, not, _&&_, _||_};
+ghost use mathlib.Core.List.{[], _∷_};
+ghost use Prim.Native.Nat.{_+_, _≤_};
+ghost use lib.ListN.{length};
+ghost use Rattle.laws.specs.Buffers.{Wrote};
+ghost use Rattle.rules.specs.Picture.{Ok, isNotOk, isOk};
+ghost use Rattle.rules.specs.Order.{OK, WAIT-SHORT, WAIT-LONG, encodeAll};
+ghost use Rattle.closing.specs.State.{stateOf, runs};
+use super::state::CfgDelay;
+use super::state::NOTOK;
+use super::state::OFF;
+use super::state::OK;
+use super::state::RUNNING;
+use super::state::RegistryState;
+use super::state::STOPPED;
+use records::order;
+use records::order::Notice;
+
+// A scan is over: it runs, and no question is open.
+pub fn becomes_ok(state: RegistryState, open: bool) -> bool
+    ensures { λ r. ⌜ r ≡ isNotOk (stateOf (state .0)) && not «open» ⌝ }
+{
+    if state.0 == NOTOK {
+        if open {
+            return false;
+        }
+        return true;
+    }
+    false
+}
+
+// The state, OK where the scan is over.
+pub fn settled(state: RegistryState, ok: bool) -> RegistryState
+    ensures { λ r. ⌜ stateOf (r .0) ≡ cond ok Ok (stateOf (state .0)) ⌝ }
+{
+    if ok {
+        return RegistryState(OK);
+    }
+    state
+}
+
+// A delay starts: the state is OK, no question is open, a node is SILENT and no delay runs.
+pub fn starts_delay(state: RegistryState, delay: CfgDelay, open: bool, silent: bool) -> bool
+    ensures { λ r. ⌜ r ≡ isOk (stateOf (state .0)) && not «open» && silent && not (runs (delay .0)) ⌝ }
+{
+    if state.0 == OFF {
+        return false;
+    }
+    if state.0 == NOTOK {
+        return false;
+    }
+    if open {
+        return false;
+    }
+    if silent {
+        if delay.0 == STOPPED {
+            return true;
+        }
+        return false;
+    }
+    false
+}
+
+// The delay, running where one starts.
+pub fn delayed(delay: CfgDelay, starts: bool) -> CfgDelay
+    ensures { λ r. ⌜ runs (r .0) ≡ runs (delay .0) || starts ⌝ }
+{
+    if starts {
+        return CfgDelay(RUNNING);
+    }
+    delay
+}
+
+// The order OK, where the scan is over.
+pub fn write_ok(out: &mut [u8], at: usize, pass: u32, ok: bool) -> usize
+    requires { ⌜ at + length (encodeAll pass (cond ok (OK ∷ []) [])) ≤ length (now out) ⌝ }
+    ensures { λ r. ⌜ Wrote (now (out .entry)) at (encodeAll pass (cond ok (OK ∷ []) [])) r (now (out .exit)) ⌝ }
+{
+    if ok {
+        return order::write_notice(out, at, pass, Notice::Ok);
+    }
+    at
+}
+
+// The wait that starts a delay: a short one, or a long one.
+pub fn write_wait(out: &mut [u8], at: usize, pass: u32, starts: bool, short: bool) -> usize
+    requires { ⌜ at + length (encodeAll pass (cond starts (cond short WAIT-SHORT WAIT-LONG ∷ []) [])) ≤ length (now out) ⌝ }
+    ensures { λ r. ⌜ Wrote (now (out .entry)) at (encodeAll pass (cond starts (cond short WAIT-SHORT WAIT-LONG ∷ []) [])) r (now (out .exit)) ⌝ }
+{
+    if starts {
+        if short {
+            return order::write_notice(out, at, pass, Notice::WaitShort);
+        }
+        return order::write_notice(out, at, pass, Notice::WaitLong);
+    }
+    at
+}

@@ -1,0 +1,119 @@
+// What is told of one entry that has changed, and what becomes of an entry that is answered.
+ghost use mathlib.Core.Path.{_≡_};
+ghost use Prim.Native.Nat.{_+_, _≤_};
+ghost use lib.ListN.{length};
+ghost use Rattle.laws.specs.Buffers.{Wrote};
+ghost use Rattle.rules.specs.Picture.{Row, isOk};
+ghost use Rattle.rules.specs.Order.{encodeAll};
+ghost use Rattle.rules.specs.Step.{statusAfter, setOrder};
+ghost use Rattle.node.specs.View.{rowOf, rowsOf, pairsOf};
+ghost use Rattle.numbering.specs.Marks.{renumberingOf};
+ghost use Rattle.closing.specs.State.{stateOf};
+ghost use Rattle.closing.specs.Told.{rowTold, rowsTold};
+use super::state::NOTOK;
+use super::state::OFF;
+use super::state::RegistryState;
+use node::address::LogicalNodeAddress;
+use node::address::NodePosition;
+use node::entry::LISTED;
+use node::entry::NodeEntry;
+use node::entry::SETTING;
+use node::pairs::Pairs;
+use numbering::renumber::Renumbering;
+use records::order;
+use records::order::Delta;
+use records::told;
+
+// The state is OK.
+pub fn is_ok(state: RegistryState) -> bool
+    ensures { λ r. ⌜ r ≡ isOk (stateOf (state .0)) ⌝ }
+{
+    if state.0 == OFF {
+        return false;
+    }
+    if state.0 == NOTOK {
+        return false;
+    }
+    true
+}
+
+// INVALID and NEW for one entry, where the state is OK.
+pub fn tell_entry(
+    out: &mut [u8],
+    pass: u32,
+    state: RegistryState,
+    size: u8,
+    before: NodeEntry,
+    after: NodeEntry,
+) -> usize
+    requires { ⌜ (3 ≤ size) × (length (encodeAll pass (rowTold (stateOf (state .0)) size (rowOf before) (rowOf after))) ≤ length (now out)) ⌝ }
+    ensures { λ r. ⌜ Wrote (now (out .entry)) 0 (encodeAll pass (rowTold (stateOf (state .0)) size (rowOf before) (rowOf after))) r (now (out .exit)) ⌝ }
+{
+    if is_ok(state) {
+        let old = before.pairs();
+        let new = after.pairs();
+        let at = order::write_delta(out, 0, pass, Delta::Invalid, size, old.missing(new));
+        return order::write_delta(out, at, pass, Delta::New, size, new.missing(old));
+    }
+    0
+}
+
+// INVALID and NEW for the first `count` entries, where the state is OK.
+pub fn tell_entries(
+    out: &mut [u8],
+    pass: u32,
+    state: RegistryState,
+    size: u8,
+    count: usize,
+    before: [NodeEntry; 63],
+    after: [NodeEntry; 63],
+) -> usize
+    requires { ⌜ (3 ≤ size) × (length (encodeAll pass (rowsTold (stateOf (state .0)) size (rowsOf count before) (rowsOf count after))) ≤ length (now out)) ⌝ }
+    ensures { λ r. ⌜ Wrote (now (out .entry)) 0 (encodeAll pass (rowsTold (stateOf (state .0)) size (rowsOf count before) (rowsOf count after))) r (now (out .exit)) ⌝ }
+{
+    if is_ok(state) {
+        let at = told::write_changes(out, 0, pass, Delta::Invalid, size, count, before, after);
+        return told::write_changes(out, at, pass, Delta::New, size, count, before, after);
+    }
+    0
+}
+
+// The entry of a node whose address is kept: LISTED, or SETTING with its renumbering.
+pub fn registered(address: LogicalNodeAddress, kept: Pairs, step: Renumbering, bad: u8) -> NodeEntry
+    ensures { λ r. ⌜ _≡_ {A = Row} (rowOf r) (record { status = statusAfter (address .0) (pairsOf kept) (renumberingOf step); bad = bad; silences = 0 }) ⌝ }
+{
+    match step {
+        Renumbering::Finished => NodeEntry::keeping(LISTED, address, kept, 0, 0, bad),
+        Renumbering::Renumbers {
+            place,
+            tries,
+            block: _,
+            old: _,
+            new: _,
+        } => NodeEntry::keeping(SETTING, address, kept, place, tries, bad),
+    }
+}
+
+// The SET of a renumbering, to the address that is kept.
+pub fn write_renumbering(
+    out: &mut [u8],
+    at: usize,
+    pass: u32,
+    position: NodePosition,
+    address: LogicalNodeAddress,
+    step: Renumbering,
+) -> usize
+    requires { ⌜ at + length (encodeAll pass (setOrder (position .0) (address .0) (renumberingOf step))) ≤ length (now out) ⌝ }
+    ensures { λ r. ⌜ Wrote (now (out .entry)) at (encodeAll pass (setOrder (position .0) (address .0) (renumberingOf step))) r (now (out .exit)) ⌝ }
+{
+    match step {
+        Renumbering::Finished => at,
+        Renumbering::Renumbers {
+            place: _,
+            tries: _,
+            block,
+            old,
+            new,
+        } => order::write_set(out, at, pass, position, address, block, old, new),
+    }
+}

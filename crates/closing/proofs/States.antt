@@ -18,14 +18,6 @@ by-state f m = go (eqb m 0) (eqb m 1)
     go false true = refl
     go false false = refl
 
-pub cond-same : {X : Type 0} (b : Bool) (x : X) → cond b x x ≡ x
-cond-same true x = refl
-cond-same false x = refl
-
-pub or-none : (b : Bool) → (b || false) ≡ b
-or-none true = refl
-or-none false = refl
-
 -- a table with a row for each state, at one kind
 pub by-row : (table : List (List ℕ)) (k : ℕ) (f : State → ℕ) → getD (getD table 0 []) k 0 ≡ f Off → getD (getD table 1 []) k 0 ≡ f NotOk → getD (getD table 2 []) k 0 ≡ f Ok
     → (m : ℕ) → getD (getD table (stateRow m) []) k 0 ≡ f (stateOf m)

@@ -8,7 +8,7 @@ use native.Mathlib.Nat.{not-suc-le-zero, le-of-suc-le-suc}
 use native.Mathlib.Omega.{arith}
 use lib.ListN.{length, getD, drop, replicate}
 use Rattle.laws.specs.Lists.{any, collect}
-use Rattle.laws.specs.Bools.{or-left, or-right, or-false, or-cases, or-true-left, or-true-right, clash}
+use Rattle.laws.specs.Bools.{or-assoc, or-left, or-right, or-false, or-cases, or-true-left, or-true-right, clash}
 
 -- P holds of every element
 pub data All {A : Type 0} (P : A → Type 0) : List A → Type 0 where
@@ -184,10 +184,6 @@ pub any-append : {A : Type 0} (f : A → Bool) (xs ys : List A) → any f (xs ++
 unfolding any
 any-append f [] ys = refl
 any-append f (x ∷ xs) ys = ap (λ (b : Bool). f x || b) (any-append f xs ys) ∙ sym (or-assoc (f x) (any f xs) (any f ys))
-  where
-    or-assoc : (a b c : Bool) → (a || b || c) ≡ (a || (b || c))
-    or-assoc true b c = refl
-    or-assoc false b c = refl
 
 pub any-left : {A : Type 0} (f : A → Bool) (xs ys : List A) → any f xs ≡ true → any f (xs ++ ys) ≡ true
 any-left f xs ys h = any-append f xs ys ∙ or-true-left (any f xs) (any f ys) h

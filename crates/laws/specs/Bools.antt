@@ -46,6 +46,14 @@ pub or-true-right : (a b : Bool) → b ≡ true → a || b ≡ true
 or-true-right true b p = refl
 or-true-right false b p = p
 
+pub or-none : (b : Bool) → (b || false) ≡ b
+or-none true = refl
+or-none false = refl
+
+pub or-assoc : (a b c : Bool) → ((a || b) || c) ≡ (a || (b || c))
+or-assoc true b c = refl
+or-assoc false b c = refl
+
 pub or-cases : (a b : Bool) → a || b ≡ true → (a ≡ true) ⊎ (b ≡ true)
 or-cases true b h = inl refl
 or-cases false b h = inr h
@@ -70,3 +78,7 @@ module _ {A : Type 0} where
 
   pub cond-false : {b : Bool} (x y : A) → b ≡ false → cond b x y ≡ y
   cond-false {b} x y e = ap (λ (t : Bool). cond t x y) e
+
+  pub cond-same : (b : Bool) (x : A) → cond b x x ≡ x
+  cond-same true x = refl
+  cond-same false x = refl

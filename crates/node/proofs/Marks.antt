@@ -25,10 +25,6 @@ module _ {X : Type 0} (f : Status → X) (a : ℕ) (ps : List Pair) (i t : ℕ) 
       go false false false true = refl
       go false false false false = refl
 
-pub cond-same : {X : Type 0} (b : Bool) (x : X) → cond b x x ≡ x
-cond-same true x = refl
-cond-same false x = refl
-
 -- what an entry keeps, by whether it is listed; what it bars, by whether it is IGNORED
 module _ (e : NodeEntry) where
   pairs : List Pair

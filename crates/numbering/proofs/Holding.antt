@@ -1,4 +1,5 @@
 -- Marks of pairs that are held: one pair at a time, and one entry at a time.
+use Rattle.laws.specs.Bools.{or-assoc, or-none}
 use Prim.Native.Nat.{ℕ, zero, suc, _+_, _<_, _≤_}
 use mathlib.Core.Path.{_≡_, refl, sym, _∙_, ap}
 use mathlib.Core.Bool.{Bool, true, false, _||_}
@@ -42,14 +43,6 @@ module _ (f : Pair → Bool) where
 
   pub or-end : (j : ℕ) (hs : List Bool) (ps : List Pair) {whole : List Bool} → length ps ≤ j → orFrom j hs (map f ps) ≡ whole → hs ≡ whole
   or-end j hs ps h w = sym (end j hs ps h) ∙ w
-
-or-assoc : (a b c : Bool) → ((a || b) || c) ≡ (a || (b || c))
-or-assoc true b c = refl
-or-assoc false b c = refl
-
-or-none : (b : Bool) → (b || false) ≡ b
-or-none true = refl
-or-none false = refl
 
 -- two lists of pairs are one behind the other
 both : (hs : List Bool) (xs ys ps : List Pair) → orEach (orEach hs (map (holds xs) ps)) (map (holds ys) ps) ≡ orEach hs (map (holds (xs ++ ys)) ps)

@@ -11,7 +11,7 @@ use borrow.Author.Tests.{eqb-true, eqb-false, eq-eqb}
 use lib.Dec.{eqb}
 use lib.ListN.{length, getD, set, replicate, length-set, getD-replicate}
 use lib.Seq.{getD-set-same, getD-set-other}
-use Rattle.laws.specs.Bools.{decide, or-true-right}
+use Rattle.laws.specs.Bools.{decide, or-true-right, or-assoc, or-none}
 use Rattle.laws.specs.Lists.{any, collect}
 use Rattle.laws.specs.Alls.{any-append}
 use Rattle.rules.specs.Picture.{Pair, Row, pairsIn}
@@ -27,10 +27,6 @@ numbers-append b (a ∷ xs) ys = go (numbers-append b xs ys) (eqb b (a .block))
     go : numbersOf b (xs ++ ys) ≡ numbersOf b xs ++ numbersOf b ys → (t : Bool) → cond t (a .number ∷ numbersOf b (xs ++ ys)) (numbersOf b (xs ++ ys)) ≡ cond t (a .number ∷ numbersOf b xs) (numbersOf b xs) ++ numbersOf b ys
     go h true = ap (λ (l : List ℕ). a .number ∷ l) h
     go h false = h
-
-or-none : (b : Bool) → (b || false) ≡ b
-or-none true = refl
-or-none false = refl
 
 -- one number more, where its block is the one looked at
 add-one-pair : (t : List ℕ) (b : ℕ) (a : Pair) {m : ℕ} → a .number < length t → m ≡ cond (eqb b (a .block)) 1 (getD t (a .number) 0)
@@ -61,10 +57,6 @@ pub record Left (before whole now rest : List ℕ) : Type 0 where
 
 pub left-start : (t xs : List ℕ) → Left t xs t xs
 left-start t xs = record { full = refl; marked = λ n h. refl }
-
-or-assoc : (a b c : Bool) → ((a || b) || c) ≡ (a || (b || c))
-or-assoc true b c = refl
-or-assoc false b c = refl
 
 in-append : (xs ys : List ℕ) (n : ℕ) → isIn (xs ++ ys) n ≡ isIn xs n || isIn ys n
 unfolding isIn

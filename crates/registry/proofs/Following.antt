@@ -1,17 +1,18 @@
 -- A run of calls has the rules' pictures, answers and orders.
 use Prim.Native.Nat.{ℕ, zero, suc, _<_}
 use mathlib.Core.Path.{_≡_, refl, sym, _∙_, ap}
+use mathlib.Core.Bool.{Bool, true, false, cond}
 use mathlib.Core.List.{List, [], _∷_, map}
 use native.Mathlib.Nat.{not-suc-le-zero, le-of-suc-le-suc}
 use lib.ListN.{length, getD, take}
-use Rattle.rules.specs.Picture.{Picture, fresh}
-use Rattle.rules.specs.Run.{Record, offered, step, left, lent, next, after}
+use Rattle.rules.specs.Picture.{Picture, legalSize, fresh, freshNumber}
+use Rattle.rules.specs.Run.{Outcome, refused, taken, Record, offered, step, numberOf, written, lent, next, after}
 use Rattle.rules.specs.Claims.{pictureAt, recordAt}
 use Rattle.rules.proofs.Demand3.{demand3}
 use Rattle.registry.specs.declared.image.RegistryImage.{RegistryImage}
-use Rattle.registry.specs.declared.record.RecordAnswer.{RecordAnswer}
-use Rattle.registry.specs.View.{viewOf}
-use Rattle.registry.specs.Outcome.{Handed, handed, expected, answerOf, Does}
+use Rattle.registry.specs.declared.image.MakeAnswer.the-variants as makes
+use Rattle.registry.specs.View.{viewOf, makeNumberOf, makeAnswer}
+use Rattle.registry.specs.Outcome.{Handed, handed, expected, answerNumberOf, answerLengthOf, answerOf, Does}
 use Rattle.registry.specs.Calls.{Call, Calls, no-call, then-call, imageAt, recordOf, Follows, Promises}
 
 -- what one call leaves
@@ -54,10 +55,25 @@ module _ (none : Record) where
   buffers p i (b ∷ cs) e (then-call d h) (suc k) c l =
       buffers (next p (recordOf b)) (b .result .picture) cs (does-picture b d ∙ ap (λ (q : Picture). next q (recordOf b)) e) h k c (le-of-suc-le-suc l)
 
+made : (l : ℕ) → makeNumberOf (makeAnswer l) ≡ freshNumber l
+unfolding makeAnswer freshNumber
+made l = go (legalSize l)
+  where
+    go : (b : Bool) → makeNumberOf (cond b makes.Made (makes.Refused 10)) ≡ cond b 0 10
+    go true = refl
+    go false = refl
+
+recorded : (o : Outcome) → (answerNumberOf (answerOf o) ≡ numberOf o) × (answerLengthOf (answerOf o) ≡ length (written o))
+unfolding numberOf written
+recorded (refused n) = (refl, refl)
+recorded (taken q os) = (refl, refl)
+
 pub promises : Promises
 unfolding pictureAt recordAt
 promises =
     record {
+      made = made;
+      recorded = recorded;
       follows = λ l i cs e h. record {
         pictures = pictures (fresh l) i cs e h;
         answers = answers _ (fresh l) i cs e h;

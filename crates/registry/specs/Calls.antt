@@ -3,13 +3,13 @@ use Prim.Native.Nat.{ℕ, zero, suc, _<_, _≤_}
 use mathlib.Core.Path.{_≡_}
 use mathlib.Core.List.{List, [], _∷_, map}
 use lib.ListN.{length, getD}
-use Rattle.rules.specs.Picture.{fresh}
-use Rattle.rules.specs.Run.{Record, offered, step, lent}
+use Rattle.rules.specs.Picture.{fresh, freshNumber}
+use Rattle.rules.specs.Run.{Outcome, Record, offered, step, lent, written, numberOf}
 use Rattle.rules.specs.Claims.{pictureAt, recordAt, Demand3}
 use Rattle.registry.specs.declared.image.RegistryImage.{RegistryImage}
 use Rattle.registry.specs.declared.record.Recorded.{Recorded}
-use Rattle.registry.specs.View.{viewOf}
-use Rattle.registry.specs.Outcome.{answerOf, Does}
+use Rattle.registry.specs.View.{viewOf, makeNumberOf, makeAnswer}
+use Rattle.registry.specs.Outcome.{answerNumberOf, answerLengthOf, answerOf, Does}
 
 -- one call: the record's bytes, the lent buffer before and after it, and what came back
 pub record Call : Type 0 where
@@ -43,4 +43,8 @@ pub record Follows (l : ℕ) (i : RegistryImage) (cs : List Call) : Type 0 where
   pub demand3 : Demand3 l (map recordOf cs)
 
 pub record Promises : Type 0 where
+  -- the numbers and lengths of the answers are the rules'
+  pub made : (l : ℕ) → makeNumberOf (makeAnswer l) ≡ freshNumber l
+  pub recorded : (o : Outcome) → (answerNumberOf (answerOf o) ≡ numberOf o) × (answerLengthOf (answerOf o) ≡ length (written o))
+  -- of every run of calls from a fresh picture for L
   pub follows : (l : ℕ) (i : RegistryImage) (cs : List Call) → viewOf i ≡ fresh l → Calls i cs → Follows l i cs

@@ -1,9 +1,10 @@
 -- What the code's ring picture stands for. Total: whatever its numbers are, it stands for a picture of the rules.
 use Prim.Native.Nat.{ℕ, _≤_}
 use mathlib.Core.Path.{_≡_}
+use mathlib.Core.Bool.{cond}
 use mathlib.Core.List.{List}
 use lib.ListN.{replicate}
-use Rattle.rules.specs.Picture.{Picture, newRow}
+use Rattle.rules.specs.Picture.{Picture, legalSize, newRow}
 use Rattle.node.specs.declared.entry.NodeEntry.{NodeEntry}
 use Rattle.node.specs.View.{rowsOf}
 use Rattle.closing.specs.State.{stateOf, runs}
@@ -17,6 +18,10 @@ viewOf i = record { state = stateOf (i .state .0); pass = i .pass; size = i .siz
 abbrev pub makeNumberOf : MakeAnswer → ℕ
 makeNumberOf (makes.Refused n) = n
 makeNumberOf makes.Made = 0
+
+-- the answer where a picture is made
+unfoldable pub makeAnswer : ℕ → MakeAnswer
+makeAnswer l = cond (legalSize l) makes.Made (makes.Refused 10)
 
 -- entries that are asked and count nothing yet
 abbrev pub AllNew : List NodeEntry → Type 0

@@ -1,9 +1,9 @@
-// The ring picture: made for L, and shown.
+// The ring picture, and how it is made for L.
 ghost use mathlib.Core.Path.{_≡_};
 ghost use mathlib.Core.Bool.{false};
 ghost use mathlib.Core.List.{[]};
-ghost use Rattle.rules.specs.Picture.{Picture, Off, fresh, freshNumber};
-ghost use Rattle.registry.specs.View.{viewOf, AllNew, makeNumberOf};
+ghost use Rattle.rules.specs.Picture.{Picture, Off, fresh};
+ghost use Rattle.registry.specs.View.{viewOf, AllNew, makeNumberOf, makeAnswer};
 ghost use Rattle.registry.specs.Outcome.{Reached};
 use closing::state::CfgDelay;
 use closing::state::OFF;
@@ -78,7 +78,7 @@ impl RegistryImage {
 
     // A fresh picture for L; 10 where L is outside 12 to 45, and then one for 12.
     pub fn fresh(l: usize) -> MadeImage
-        ensures { λ r. ⌜ (makeNumberOf (r .answer) ≡ freshNumber l) × (viewOf (r .picture) ≡ fresh l) × Reached (viewOf (r .picture)) ⌝ }
+        ensures { λ r. ⌜ (r .answer ≡ makeAnswer l) × (viewOf (r .picture) ≡ fresh l) × Reached (viewOf (r .picture)) ⌝ }
     {
         if l < MIN_SIZE {
             return MadeImage {

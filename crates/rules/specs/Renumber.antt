@@ -71,7 +71,7 @@ renumberFrom free place tries (j ∷ js) =
 unfoldable pub renumber : (ℕ → Option ℕ) → (place tries : ℕ) → List Judged → Renumbering
 renumber free place tries js = renumberFrom free place tries (drop place js)
 
--- "A row has a place and a try count, both 0 refuseIf it was SETTING."
+-- "A row has a place and a try count, both 0 unless it was SETTING."
 unfoldable pub placeOf : Status → ℕ
 placeOf WAITING = 0
 placeOf (SETTING a ps place tries) = place

@@ -1,6 +1,5 @@
 -- One test.
-use Rattle.laws.specs.Bools.{or-true-right}
-use Rattle.closing.proofs.States.{or-none}
+use Rattle.laws.specs.Bools.{or-true-right, or-none}
 use Rattle.closing.specs.State.{runs}
 use mathlib.Core.Bool.{true}
 use mathlib.Core.Path.{refl, sym}

@@ -1,5 +1,6 @@
 -- By the status's number.
-use Rattle.node.proofs.Marks.{by-mark, cond-same}
+use Rattle.laws.specs.Bools.{cond-same}
+use Rattle.node.proofs.Marks.{by-mark}
 use Rattle.node.specs.View.{rowOf}
 use Rattle.rules.specs.Renumber.{triesOf}
 use borrow.Author.Tests.{ne-eqb}

@@ -1,10 +1,11 @@
 -- 5, 6, 7, 8, or the announcement is judged.
+use Rattle.laws.specs.Bools.{cond-same}
 use Prim.Native.Nat.{_≤_, ℕ}
 use Rattle.node.specs.View.{pairsOf}
 use Rattle.registry.proofs.Doing.{along, refuses}
 use Rattle.registry.proofs.Places.{mapped-length}
 use Rattle.registry.proofs.Refusing.{answer-5, answer-6, answer-6-zero, answer-7, answer-8, answer-else, answer-open, seat}
-use Rattle.closing.proofs.States.{by-state, cond-same}
+use Rattle.closing.proofs.States.{by-state}
 use Rattle.rules.specs.Picture.{isNotOk}
 use Rattle.rules.specs.Run.{Outcome, written}
 use borrow.Author.Needs.{needs}

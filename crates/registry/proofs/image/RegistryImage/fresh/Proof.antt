@@ -1,7 +1,7 @@
 -- The two limits.
 use Rattle.registry.proofs.Stepping.{reached-fresh}
-use Rattle.registry.specs.View.{viewOf}
-use Rattle.rules.specs.Picture.{fresh, freshNumber, legalSize}
+use Rattle.registry.specs.View.{makeAnswer, viewOf}
+use Rattle.rules.specs.Picture.{fresh, legalSize}
 use borrow.Author.Needs.{needs}
 use borrow.Author.Tests.{le-leb, lt-leb}
 use mathlib.Core.Path.{_≡_, refl}
@@ -15,7 +15,7 @@ stopped-requires : tie.Need-stopped-requires
 stopped-requires c κs = search needs
 
 returns : tie.Need-returns
-unfolding freshNumber fresh legalSize
+unfolding makeAnswer fresh legalSize
 returns c =
     let at-if1 = c .before in
     let start = at-if1 .before in
@@ -28,7 +28,7 @@ stopped-requires-2 : tie.Need-stopped-requires-2
 stopped-requires-2 c κs = search needs
 
 returns-2 : tie.Need-returns-2
-unfolding freshNumber fresh legalSize
+unfolding makeAnswer fresh legalSize
 returns-2 c =
     let at-if2 = c .before in
     let at-if1 = at-if2 .before in
@@ -42,7 +42,7 @@ stopped-requires-3 : tie.Need-stopped-requires-3
 stopped-requires-3 c κs = search needs
 
 returns-3 : tie.Need-returns-3
-unfolding freshNumber fresh legalSize
+unfolding makeAnswer fresh legalSize
 returns-3 c =
     let at-if2 = c .before in
     let at-if1 = at-if2 .before in

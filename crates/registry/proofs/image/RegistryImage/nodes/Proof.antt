@@ -1,9 +1,10 @@
 -- One more than there are units, while the ring runs.
+use Rattle.laws.specs.Bools.{cond-same}
 use Prim.Native.Nat.{_+_, suc, ℕ}
 use Rattle.node.proofs.Arrays.{rows-length}
 use Rattle.node.specs.View.{rowsOf}
 use Rattle.registry.proofs.Places.{mapped-length}
-use Rattle.closing.proofs.States.{by-state, cond-same}
+use Rattle.closing.proofs.States.{by-state}
 use Rattle.registry.specs.View.{viewOf}
 use Rattle.rules.specs.Picture.{State, nodes, nodesIn}
 use borrow.Author.Needs.{needs}

@@ -14,8 +14,8 @@ use Rattle.rules.specs.House.{minSize, maxSize, maxPayload}
 use Rattle.rules.specs.Picture.{legalSize}
 use Rattle.rules.specs.Telegram.{countOf, telIdFor, partOf, telegramOf, cut, cutTo, cutBytes}
 use Rattle.rules.proofs.RoundTrip.{size-range, telegram-length, cuts}
-use Rattle.transport.specs.declared.segmentation.CutAnswer.{CutAnswer}
-use Rattle.transport.specs.Answers.{cutAnswer, cutLengthOf, Cuts}
+use Rattle.segmentation.specs.declared.CutAnswer.{CutAnswer}
+use Rattle.segmentation.specs.Answers.{cutAnswer, cutLengthOf, Cuts}
 
 -- a telegram has at most L bytes behind its head
 fits : (l m : ℕ) (payload : List ℕ) (k : ℕ) → minSize ≤ l → length (telegramOf l m payload k) ≤ 6 + l

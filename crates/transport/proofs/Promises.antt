@@ -8,8 +8,9 @@ use lib.Seq.{sets}
 use Rattle.laws.specs.Buffers.{sets-behind}
 use Rattle.rules.specs.Telegram as rules
 use Rattle.rules.specs.Telegram.{countNumber, countValue, cutNumber, cutLength, cutBytes, joinNumber, joinMsgId, joinLength}
-use Rattle.transport.specs.declared.segmentation.CutAnswer.{CutAnswer}
-use Rattle.transport.specs.Answers.{countNumberOf, countValueOf, countAnswer, cutNumberOf, cutLengthOf, cutAnswer, joinNumberOf, joinMsgIdOf, joinLengthOf, joinAnswer, Cuts}
+use Rattle.segmentation.specs.declared.CutAnswer.{CutAnswer}
+use Rattle.segmentation.specs.Answers.{countNumberOf, countValueOf, countAnswer, cutNumberOf, cutLengthOf, cutAnswer, Cuts}
+use Rattle.reassembly.specs.Answers.{joinNumberOf, joinMsgIdOf, joinLengthOf, joinAnswer}
 use Rattle.transport.specs.Promises.{Promises}
 
 counted : (c : rules.Count) → (countNumberOf (countAnswer c) ≡ countNumber c) × (countValueOf (countAnswer c) ≡ countValue c)

@@ -1,0 +1,127 @@
+-- Joining: what the code hands back, from the rules' outcome.
+use Prim.Native.Nat.{ℕ, _+_, _-_, _%_, _≤_}
+use mathlib.Core.Path.{_≡_, refl, sym, subst, ap, _∙_}
+use mathlib.Core.Bool.{Bool, true, false, cond, not, _&&_, _||_}
+use mathlib.Core.List.{List}
+use mathlib.Core.Logic.{_⊎_, inl, inr}
+use native.Mathlib.Omega.{arith}
+use native.Mathlib.Nat.{pos-of-ne-zero}
+use borrow.Author.Tests.{le-leb, eq-eqb, ne-eqb, eqb-true, eqb-false, ltb-false}
+use lib.Dec.{eqb, ltb, leb}
+use lib.ListN.{length, getD, take, drop, length-drop}
+use lib.Seq.{sets, take-all, drop-drop, getD-drop}
+use Rattle.laws.specs.Bools.{clash, decide, not-false, or-left, or-right, and-true, cond-true, cond-false}
+use Rattle.rules.specs.House.{maxPayload}
+use Rattle.rules.specs.Event.{be4}
+use Rattle.rules.specs.Telegram.{begins, continues, joinTo, malformed, telLenOf, telIdOf}
+use Rattle.rules.specs.Telegram as rules
+use Rattle.reassembly.specs.declared.Joined.{Joined}
+use Rattle.reassembly.specs.declared.Reassembly.{Reassembly}
+use Rattle.reassembly.specs.Answers.{joiningOf, stateOf, handedBack, Joins}
+use Rattle.reassembly.specs.declared.JoinAnswer.the-variants as joins
+
+-- the same outcome by another name
+pub along : {s : Reassembly} {j k : rules.Joined} {r : Joined} {after : List ℕ} → j ≡ k → Joins s k r after → Joins s j r after
+along {s} {j} {k} {r} {after} e h = subst (λ (x : rules.Joined). Joins s x r after) (sym e) h
+
+-- 16
+pub drops : {s : Reassembly} {j : rules.Joined} {r : Joined} (b : List ℕ) → j ≡ rules.dropped b
+    → (r .answer ≡ joins.Refused 16) × (joiningOf (r .state) ≡ rules.idle) × (r .state ≡ stateOf rules.idle) → Joins s j r b
+unfolding rules.dropped handedBack
+drops b e f = along e (record { answered = f .0; next = f .1; numbers = f .2; buffer = refl })
+
+-- a part that the open message waits for
+module _ (s : Reassembly) (m c : ℕ) (part b : List ℕ) (some : s .open ≡ 0 → ⊥) (same : m ≡ s .«msg_id») (next : c ≡ s .counter)
+    (fits : s .length + length part ≤ maxPayload) where
+  goes-on : (last : Bool) → continues last (joiningOf s) m c part b
+      ≡ record {
+        answer = cond last (rules.complete (s .«msg_id») (s .length + length part)) rules.stillOpen;
+        state = cond last rules.idle (rules.opened (s .«msg_id») ((s .counter + 1) % 256) (s .length + length part));
+        buffer = sets b (s .length) part;
+      }
+  unfolding joiningOf continues
+  goes-on last =
+      ap (λ (j : rules.Joining). continues last j m c part b) (cond-false rules.idle (rules.opened (s .«msg_id») (s .counter) (s .length)) (ne-eqb (s .open) 0 some))
+      ∙ cond-true _ _ (and-true _ _ (and-true _ _ (eq-eqb m (s .«msg_id») same) (eq-eqb c (s .counter) next)) (le-leb (s .length + length part) maxPayload fits))
+
+  pub completes : {t : Reassembly} {last : Bool} {after : List ℕ} → last ≡ true → (joiningOf t ≡ rules.idle) × (t ≡ stateOf rules.idle) → after ≡ sets b (s .length) part
+      → Joins s (continues last (joiningOf s) m c part b) (record { answer = joins.Complete (s .«msg_id») (s .length + length part); state = t }) after
+  unfolding handedBack
+  completes {t} {last} {after} e n f =
+      along (ap (λ (x : Bool). continues x (joiningOf s) m c part b) e ∙ goes-on true) (record { answered = refl; next = n .0; numbers = n .1; buffer = f })
+
+  pub stays-open : {t : Reassembly} {k : ℕ} {last : Bool} {after : List ℕ} → last ≡ false
+      → (joiningOf t ≡ rules.opened (s .«msg_id») k (s .length + length part)) × (t ≡ stateOf (rules.opened (s .«msg_id») k (s .length + length part)))
+      → k ≡ (s .counter + 1) % 256 → after ≡ sets b (s .length) part
+      → Joins s (continues last (joiningOf s) m c part b) (record { answer = joins.Open; state = t }) after
+  unfolding handedBack
+  stays-open {t} {k} {last} {after} e n i f =
+      let o = ap (λ (z : ℕ). rules.opened (s .«msg_id») z (s .length + length part)) i in
+      along (ap (λ (x : Bool). continues x (joiningOf s) m c part b) e ∙ goes-on false)
+      (record { answered = refl; next = n .0 ∙ o; numbers = n .1 ∙ ap stateOf o; buffer = f })
+
+-- the bytes behind the first k
+rest : (k : ℕ) (t : List ℕ) → take (length t - k) (drop k t) ≡ drop k t
+rest k t = take-all (length t - k) (drop k t) (omega (arith, length-drop k t))
+
+-- a telegram by its TelID
+module _ (id : ℕ) (came : Reassembly) (t b : List ℕ) {m : ℕ} (e : m ≡ be4 t 0) where
+  pub takes-single : {n : ℕ} {st : Reassembly} {after : List ℕ} → id ≡ 0 → n ≡ length t - 6 → (joiningOf st ≡ rules.idle) × (st ≡ stateOf rules.idle)
+      → after ≡ sets b 0 (take (length t - 6) (drop 6 t)) → Joins came (joinTo id (joiningOf came) (be4 t 0) (drop 6 t) b) (record { answer = joins.Complete m n; state = st }) after
+  unfolding joinTo handedBack
+  takes-single i n f g =
+      along (cond-true _ _ (eq-eqb id 0 i))
+      (record { answered = (λ j. joins.Complete (e j) ((n ∙ sym (length-drop 6 t)) j)); next = f .0; numbers = f .1; buffer = g ∙ ap (sets b 0) (rest 6 t) })
+
+  module _ (several : id ≡ 0 → ⊥) {r : Joined} {after : List ℕ} where
+    pub takes-first : id ≡ 1 → Joins came (begins m (getD t 6 0) (take (length t - 7) (drop 7 t)) b) r after → Joins came (joinTo id (joiningOf came) (be4 t 0) (drop 6 t) b) r after
+    unfolding joinTo
+    takes-first i h =
+        along (cond-false _ _ (ne-eqb id 0 several) ∙ cond-true _ _ (eq-eqb id 1 i)
+        ∙ (λ j. begins (sym e j) (getD-drop 6 t 0 0 j) ((drop-drop 1 6 t ∙ sym (rest 7 t)) j) b)) h
+
+    pub takes-part : (id ≡ 1 → ⊥) → Joins came (continues (eqb id 3) (joiningOf came) m (getD t 6 0) (take (length t - 7) (drop 7 t)) b) r after
+        → Joins came (joinTo id (joiningOf came) (be4 t 0) (drop 6 t) b) r after
+    unfolding joinTo
+    takes-part i h =
+        along (cond-false _ _ (ne-eqb id 0 several) ∙ cond-false _ _ (ne-eqb id 1 i)
+        ∙ (λ j. continues (eqb id 3) (joiningOf came) (sym e j) (getD-drop 6 t 0 0 j) ((drop-drop 1 6 t ∙ sym (rest 7 t)) j) b)) h
+
+-- 10, 13, 14 and 15
+pub keeps : {j : rules.Joined} {r : Joined} (s : Reassembly) (b : List ℕ) (n : ℕ) → eqb n 16 ≡ false → j ≡ rules.unchanged n (joiningOf s) b
+    → (r .answer ≡ joins.Refused n) × (r .state ≡ s) → Joins s j r b
+unfolding rules.unchanged handedBack
+keeps s b n other e f = along e (record { answered = f .0; next = ap joiningOf (f .1); numbers = f .1 ∙ sym (cond-false (stateOf (joiningOf s)) s other); buffer = refl })
+
+-- a telegram that is not malformed
+module _ (l : ℕ) (t : List ℕ) (h : malformed l t ≡ false) where
+  short : Bool
+  short = ltb (length t) 6
+
+  wrong : Bool
+  wrong = not (eqb (length t) (6 + telLenOf t))
+
+  pub has-head : 6 ≤ length t
+  unfolding malformed short wrong
+  has-head = ltb-false (length t) 6 (or-left short wrong (or-left (short || wrong) (ltb l (telLenOf t)) (or-left (short || wrong || ltb l (telLenOf t)) _ h)))
+
+  long : length t ≡ 6 + telLenOf t
+  unfolding malformed short wrong
+  long = eqb-true (length t) (6 + telLenOf t) (not-false _ (or-right short wrong (or-left (short || wrong) (ltb l (telLenOf t)) (or-left (short || wrong || ltb l (telLenOf t)) _ h))))
+
+  bounded : telLenOf t ≤ l
+  unfolding malformed short wrong
+  bounded = ltb-false l (telLenOf t) (or-right (short || wrong) (ltb l (telLenOf t)) (or-left (short || wrong || ltb l (telLenOf t)) _ h))
+
+  pub at-most : length t ≤ 6 + l
+  at-most = omega (arith, long, bounded)
+
+  pub has-counter : telIdOf t ≤ 3 → (telIdOf t ≡ 0 → ⊥) → 7 ≤ length t
+  unfolding malformed short wrong
+  has-counter i j = go (decide (eqb (telLenOf t) 0))
+    where
+      go : (eqb (telLenOf t) 0 ≡ true) ⊎ (eqb (telLenOf t) 0 ≡ false) → 7 ≤ length t
+      go (inl e) =
+          clash (and-true (eqb (telLenOf t) 0 && leb 1 (telIdOf t)) (leb (telIdOf t) 3) (and-true (eqb (telLenOf t) 0) (leb 1 (telIdOf t)) e (le-leb 1 (telIdOf t) (pos-of-ne-zero j))) (le-leb (telIdOf t) 3 i))
+          (or-right (short || wrong || ltb l (telLenOf t)) (eqb (telLenOf t) 0 && leb 1 (telIdOf t) && leb (telIdOf t) 3) h)
+      go (inr e) = omega (arith, long, pos-of-ne-zero (eqb-false (telLenOf t) 0 e))

@@ -1,0 +1,42 @@
+-- What counting and cutting answer: their numbers and values, and what each answer of the rules is in code.
+use Prim.Native.Nat.{ℕ}
+use mathlib.Core.Path.{_≡_}
+use mathlib.Core.List.{List}
+use lib.ListN.{length}
+use lib.Seq.{sets}
+use Rattle.rules.specs.Telegram as rules
+use Rattle.segmentation.specs.declared.CountAnswer.{CountAnswer}
+use Rattle.segmentation.specs.declared.CountAnswer.the-variants as counts
+use Rattle.segmentation.specs.declared.CutAnswer.{CutAnswer}
+use Rattle.segmentation.specs.declared.CutAnswer.the-variants as cuts
+
+-- how many telegrams
+abbrev pub countNumberOf : CountAnswer → ℕ
+countNumberOf (counts.Refused n) = n
+countNumberOf (counts.Telegrams k) = 0
+
+abbrev pub countValueOf : CountAnswer → ℕ
+countValueOf (counts.Refused n) = 0
+countValueOf (counts.Telegrams k) = k
+
+abbrev pub countAnswer : rules.Count → CountAnswer
+countAnswer (rules.uncounted n) = counts.Refused n
+countAnswer (rules.countIs k) = counts.Telegrams k
+
+-- one telegram
+abbrev pub cutNumberOf : CutAnswer → ℕ
+cutNumberOf (cuts.Refused n) = n
+cutNumberOf (cuts.Length n) = 0
+
+abbrev pub cutLengthOf : CutAnswer → ℕ
+cutLengthOf (cuts.Refused n) = 0
+cutLengthOf (cuts.Length n) = n
+
+abbrev pub cutAnswer : rules.Cut → CutAnswer
+cutAnswer (rules.uncut n) = cuts.Refused n
+cutAnswer (rules.cutTo t) = cuts.Length (length t)
+
+-- What cutting does: the answer, and the lent buffer afterwards, which has the telegram at its start and is else as it was.
+pub record Cuts (c : rules.Cut) (before : List ℕ) (answer : CutAnswer) (after : List ℕ) : Type 0 where
+  pub answered : answer ≡ cutAnswer c
+  pub buffer : after ≡ sets before 0 (rules.cutBytes c)

@@ -1,0 +1,195 @@
+// Segmentation: how many telegrams a message has, and each of them by its number.
+ghost use mathlib.Core.Bool.{true};
+ghost use mathlib.Core.Path.{_≡_};
+ghost use Prim.Native.Nat.{_≤_, _<_, min};
+ghost use lib.ListN.{length};
+ghost use Rattle.rules.specs.House.{minSize, maxPayload};
+ghost use Rattle.rules.specs.Picture.{legalSize};
+ghost use Rattle.rules.specs.Telegram.{countOf, count, cut};
+ghost use Rattle.segmentation.specs.Answers.{countNumberOf, countValueOf, cutNumberOf, cutLengthOf, countAnswer, Cuts};
+ghost use Rattle.segmentation.specs.Parts.{partId};
+use telegram::head;
+use telegram::head::COUNTER;
+use telegram::head::HEAD;
+use telegram::head::TEL_ID_FINAL;
+use telegram::head::TEL_ID_FIRST;
+use telegram::head::TEL_ID_NEXT;
+use telegram::head::TEL_ID_SINGLE;
+use telegram::limits;
+use telegram::limits::ILLEGAL_SIZE;
+use telegram::limits::NO_SUCH_TELEGRAM;
+use telegram::limits::PAYLOAD_TOO_LONG;
+use telegram::limits::ROOM_TOO_SHORT;
+
+// What `count` answers: the number of a refusal, or how many telegrams the message has.
+pub enum CountAnswer {
+    Refused(u8),
+    Telegrams(usize),
+}
+
+// What `cut` answers: the number of a refusal, or the length of the telegram.
+pub enum CutAnswer {
+    Refused(u8),
+    Length(usize),
+}
+
+impl CountAnswer {
+    // The number given back: 0 where the message is counted.
+    pub fn number(self) -> u8
+        ensures { λ r. ⌜ r ≡ countNumberOf self ⌝ }
+    {
+        match self {
+            CountAnswer::Refused(number) => number,
+            CountAnswer::Telegrams(_) => 0,
+        }
+    }
+
+    // How many telegrams: 0 beside a refusal.
+    pub fn telegrams(self) -> usize
+        ensures { λ r. ⌜ r ≡ countValueOf self ⌝ }
+    {
+        match self {
+            CountAnswer::Refused(_) => 0,
+            CountAnswer::Telegrams(telegrams) => telegrams,
+        }
+    }
+}
+
+impl CutAnswer {
+    // The number given back: 0 where a telegram is written.
+    pub fn number(self) -> u8
+        ensures { λ r. ⌜ r ≡ cutNumberOf self ⌝ }
+    {
+        match self {
+            CutAnswer::Refused(number) => number,
+            CutAnswer::Length(_) => 0,
+        }
+    }
+
+    // How many bytes the telegram has: 0 beside a refusal.
+    pub fn length(self) -> usize
+        ensures { λ r. ⌜ r ≡ cutLengthOf self ⌝ }
+    {
+        match self {
+            CutAnswer::Refused(_) => 0,
+            CutAnswer::Length(length) => length,
+        }
+    }
+}
+
+// How many telegrams a message of n bytes has.
+pub fn count_of(l: usize, n: usize) -> usize
+    requires { ⌜ (minSize ≤ l) × (n ≤ maxPayload) ⌝ }
+    ensures { λ r. ⌜ r ≡ countOf l n ⌝ }
+{
+    if n <= l {
+        return 1;
+    }
+    (n + (l - 2)) / (l - 1)
+}
+
+// How many telegrams a message has, or 10 or 11.
+pub fn count(l: usize, payload: &[u8]) -> CountAnswer
+    ensures { λ r. ⌜ r ≡ countAnswer (count l (now (payload .entry))) ⌝ }
+{
+    if limits::illegal(l) {
+        return CountAnswer::Refused(ILLEGAL_SIZE);
+    }
+    let n = payload.len();
+    if limits::too_long(n) {
+        return CountAnswer::Refused(PAYLOAD_TOO_LONG);
+    }
+    CountAnswer::Telegrams(count_of(l, n))
+}
+
+// The only telegram of a message up to L, or 12 or 13.
+fn cut_single(l: usize, msg_id: u32, payload: &[u8], number: usize, buffer: &mut [u8]) -> CutAnswer
+    requires { ⌜ (legalSize l ≡ true) × (length (now payload) ≤ l) ⌝ }
+    ensures { λ r. ⌜ Cuts (cut l «msg_id» (now (payload .entry)) number (length (now (buffer .entry)))) (now (buffer .entry)) r (now (buffer .exit)) ⌝ }
+{
+    let n = payload.len();
+    if number != 1 {
+        return CutAnswer::Refused(NO_SUCH_TELEGRAM);
+    }
+    if buffer.len() < HEAD + n {
+        return CutAnswer::Refused(ROOM_TOO_SHORT);
+    }
+    head::write_head(buffer, msg_id, TEL_ID_SINGLE, n as u32);
+    head::store(buffer, HEAD, payload);
+    CutAnswer::Length(HEAD + n)
+}
+
+// The smaller of two numbers.
+fn smaller(a: usize, b: usize) -> usize
+    ensures { λ r. ⌜ r ≡ min a b ⌝ }
+{
+    if a <= b {
+        return a;
+    }
+    b
+}
+
+// The TelID of a telegram with `before` telegrams in front of it and `left` bytes from its own on, of which it holds `most`.
+fn part_id(before: usize, left: usize, most: usize) -> u32
+    ensures { λ r. ⌜ (r ≡ partId before left most) × (r < 16) ⌝ }
+{
+    if before == 0 {
+        return TEL_ID_FIRST;
+    }
+    if left <= most {
+        return TEL_ID_FINAL;
+    }
+    TEL_ID_NEXT
+}
+
+// One of several telegrams, or 12 or 13.
+fn cut_part(l: usize, msg_id: u32, payload: &[u8], number: usize, buffer: &mut [u8]) -> CutAnswer
+    requires { ⌜ (legalSize l ≡ true) × (l < length (now payload)) × (length (now payload) ≤ maxPayload) ⌝ }
+    ensures { λ r. ⌜ Cuts (cut l «msg_id» (now (payload .entry)) number (length (now (buffer .entry)))) (now (buffer .entry)) r (now (buffer .exit)) ⌝ }
+{
+    let n = payload.len();
+    if number == 0 {
+        return CutAnswer::Refused(NO_SUCH_TELEGRAM);
+    }
+    // There are no more telegrams than bytes, and the product below fits.
+    if n < number {
+        return CutAnswer::Refused(NO_SUCH_TELEGRAM);
+    }
+    let before = number - 1;
+    let most = l - 1;
+    let from = before * most;
+    if n <= from {
+        return CutAnswer::Refused(NO_SUCH_TELEGRAM);
+    }
+    let left = n - from;
+    let size = smaller(most, left);
+    if buffer.len() < COUNTER + 1 + size {
+        return CutAnswer::Refused(ROOM_TOO_SHORT);
+    }
+    head::write_head(
+        buffer,
+        msg_id,
+        part_id(before, left, most),
+        (1 + size) as u32,
+    );
+    buffer[COUNTER] = octets::low(before as u32);
+    head::store(buffer, COUNTER + 1, &payload[from..from + size]);
+    CutAnswer::Length(COUNTER + 1 + size)
+}
+
+// Telegram `number` of a message into `buffer`, or 10, 11, 12 or 13, which leave `buffer` as it is.
+pub fn cut(l: usize, msg_id: u32, payload: &[u8], number: usize, buffer: &mut [u8]) -> CutAnswer
+    ensures { λ r. ⌜ Cuts (cut l «msg_id» (now (payload .entry)) number (length (now (buffer .entry)))) (now (buffer .entry)) r (now (buffer .exit)) ⌝ }
+{
+    if limits::illegal(l) {
+        return CutAnswer::Refused(ILLEGAL_SIZE);
+    }
+    let n = payload.len();
+    if limits::too_long(n) {
+        return CutAnswer::Refused(PAYLOAD_TOO_LONG);
+    }
+    if l < n {
+        return cut_part(l, msg_id, payload, number, buffer);
+    }
+    cut_single(l, msg_id, payload, number, buffer)
+}

@@ -1,0 +1,104 @@
+// The bytes of one telegram: its head written and read, and its part of the message copied.
+ghost use mathlib.Core.Path.{_≡_};
+ghost use mathlib.Core.List.{_++_};
+ghost use Prim.Native.Nat.{_+_, _*_, _/_, _≤_, _<_};
+ghost use lib.ListN.{length};
+ghost use lib.Seq.{sets};
+ghost use Rattle.rules.specs.Event.{be4, four};
+ghost use Rattle.rules.specs.Telegram.{headBytes, telIdOf, telLenOf, malformed};
+
+// MsgID, TelID and TelLen.
+pub const HEAD: usize = 6;
+
+// Where the counter byte stands in a telegram of several.
+pub const COUNTER: usize = HEAD;
+
+pub const TEL_ID_SINGLE: u32 = 0;
+
+pub const TEL_ID_FIRST: u32 = 1;
+
+pub const TEL_ID_NEXT: u32 = 2;
+
+pub const TEL_ID_FINAL: u32 = 3;
+
+// Copies `part` into `buffer`, from `at` on.
+pub fn store(buffer: &mut [u8], at: usize, part: &[u8])
+    requires { ⌜ at + length (now part) ≤ length (now buffer) ⌝ }
+    ensures { λ _. ⌜ now (buffer .exit) ≡ sets (now (buffer .entry)) at (now (part .entry)) ⌝ }
+{
+    let mut i = 0;
+    while i < part.len() {
+        buffer[at + i] = part[i];
+        i += 1;
+    }
+}
+
+// TelID and the high bits of TelLen in one byte.
+fn pack(tel_id: u32, tel_len: u32) -> u8
+    requires { ⌜ («tel_id» < 16) × («tel_len» < 4096) ⌝ }
+    ensures { λ r. ⌜ r ≡ «tel_id» * 16 + «tel_len» / 256 ⌝ }
+{
+    ((tel_id << 4) | (tel_len >> 8)) as u8
+}
+
+// Writes the head of a telegram.
+pub fn write_head(buffer: &mut [u8], msg_id: u32, tel_id: u32, tel_len: u32)
+    requires { ⌜ (6 ≤ length (now buffer)) × («tel_id» < 16) × («tel_len» < 4096) ⌝ }
+    ensures { λ _. ⌜ now (buffer .exit) ≡ sets (now (buffer .entry)) 0 (four «msg_id» ++ headBytes «tel_id» «tel_len») ⌝ }
+{
+    octets::write4(buffer, 0, msg_id);
+    buffer[4] = pack(tel_id, tel_len);
+    buffer[5] = octets::low(tel_len);
+}
+
+// The MsgID of a telegram.
+pub fn msg_id(telegram: &[u8]) -> u32
+    requires { ⌜ 6 ≤ length (now telegram) ⌝ }
+    ensures { λ r. ⌜ r ≡ be4 (now (telegram .entry)) 0 ⌝ }
+{
+    octets::read4(telegram, 0)
+}
+
+// The TelID of a telegram.
+pub fn tel_id(telegram: &[u8]) -> u32
+    requires { ⌜ 6 ≤ length (now telegram) ⌝ }
+    ensures { λ r. ⌜ r ≡ telIdOf (now (telegram .entry)) ⌝ }
+{
+    (telegram[4] >> 4) as u32
+}
+
+// The TelLen of a telegram.
+fn tel_len(telegram: &[u8]) -> usize
+    requires { ⌜ 6 ≤ length (now telegram) ⌝ }
+    ensures { λ r. ⌜ (r ≡ telLenOf (now (telegram .entry))) × (r < 4096) ⌝ }
+{
+    octets::word(telegram[4] & 0x0F, telegram[5]) as usize
+}
+
+// The telegram is too short, its TelLen wrong or above L, or its counter byte missing.
+pub fn malformed(l: usize, telegram: &[u8]) -> bool
+    ensures { λ r. ⌜ r ≡ malformed l (now (telegram .entry)) ⌝ }
+{
+    let n = telegram.len();
+    if n < HEAD {
+        return true;
+    }
+    let tel_len = tel_len(telegram);
+    if n != HEAD + tel_len {
+        return true;
+    }
+    if l < tel_len {
+        return true;
+    }
+    if tel_len != 0 {
+        return false;
+    }
+    let tel_id = tel_id(telegram);
+    if tel_id < TEL_ID_FIRST {
+        return false;
+    }
+    if TEL_ID_FINAL < tel_id {
+        return false;
+    }
+    true
+}

@@ -1,0 +1,49 @@
+use borrow.Author.Needs.{needs}
+use Prim.Native.Nat.{_-_}
+use lib.ListN.{length}
+use Rattle.console.proofs.output.Output.hex_bytes.Statement.{statement}
+use Rattle.console.proofs.output.Output.hex_bytes.Tie as tie
+use Rattle.console.proofs.output.Output.hex_bytes.Reads as reads
+use Rattle.console.proofs.output.Output.hex_bytes.Lts as lts
+use Rattle.console.proofs.output.Output.hex.Reads as hex-reads
+
+abbrev Inv-loop : tie.InvT-loop
+Inv-loop text₀ bytes next₀ i₀ text next i = Unit {0}
+
+abbrev μ-loop : tie.MeasureT-loop
+μ-loop text₀ bytes next₀ i₀ text next i = length bytes - i
+
+loop-holds : tie.Need-loop-holds Inv-loop μ-loop
+loop-holds c = search needs
+
+shared-slice-read-hex : tie.Need-shared-slice-read-hex Inv-loop μ-loop
+shared-slice-read-hex c = search needs
+
+hex-requires : tie.Need-hex-requires Inv-loop μ-loop
+hex-requires c κs = search needs
+
+add-i : tie.Need-add-i Inv-loop μ-loop
+add-i c = search needs
+
+loop-less : tie.Need-loop-less Inv-loop μ-loop
+loop-less c = search needs
+
+loop-again : tie.Need-loop-again Inv-loop μ-loop
+loop-again c = search needs
+
+returns : tie.Need-returns Inv-loop μ-loop
+returns c = search needs
+
+pub hex-bytes-spec : {M : Type 1} → statement M
+hex-bytes-spec =
+    tie.close
+    (tie.spec
+    Inv-loop
+    μ-loop
+    loop-holds
+    shared-slice-read-hex
+    hex-requires
+    add-i
+    loop-less
+    loop-again
+    returns)

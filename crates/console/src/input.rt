@@ -1,0 +1,81 @@
+// Lines of standard input.
+ghost use Prim.Native.Nat.{_≤_};
+use libc::STDIN_FILENO;
+use script::digits;
+
+// How many bytes a read takes, and the longest line.
+pub const CHUNK: usize = 65536;
+
+pub const MAX_LINE: usize = 16384;
+
+const LF: u8 = 10;
+
+// What is read and not used yet: the bytes of the chunk from `from` to `to`.
+pub struct Input {
+    pub from: usize,
+    pub to: usize,
+}
+
+// A line: whether there is one, its length without the blanks and CRs at its end (above 16,384: too long), and the input behind it.
+pub struct Line {
+    pub present: bool,
+    pub length: usize,
+    pub input: Input,
+}
+
+// Byte number `seen` of a line, counted from 0, where the line has room for it; how many are seen then, at most one more than fit.
+fn store(line: &mut [u8; MAX_LINE], seen: usize, byte: u8) -> usize {
+    if MAX_LINE <= seen {
+        return MAX_LINE + 1;
+    }
+    line[seen] = byte;
+    seen + 1
+}
+
+impl Input {
+    // Nothing read yet.
+    pub fn new() -> Self {
+        Input { from: 0, to: 0 }
+    }
+
+    // With something to use, unless the input has ended.
+    fn filled(self, chunk: &mut [u8; CHUNK]) -> Input {
+        if self.from < self.to {
+            return self;
+        }
+        let got = libc::read(STDIN_FILENO, chunk);
+        Input {
+            from: 0,
+            to: io::count(got, chunk),
+        }
+    }
+
+    // The next line into `line`. A line without LF at the input's end counts where it has a byte.
+    pub fn line(self, chunk: &mut [u8; CHUNK], line: &mut [u8; MAX_LINE]) -> Line {
+        let mut input = self;
+        let mut seen = 0;
+        let mut length = 0;
+        let mut turns = u64::MAX;
+        while 0 < turns {
+            turns -= 1;
+            let filled = input.filled(chunk);
+            let at = filled.from;
+            if filled.to <= at {
+                return Line { present: 0 < seen, length, input: filled };
+            }
+            if CHUNK <= at {
+                return Line { present: 0 < seen, length, input: filled };
+            }
+            let byte = chunk[at];
+            input = Input { from: at + 1, to: filled.to };
+            if byte == LF {
+                return Line { present: true, length, input };
+            }
+            seen = store(line, seen, byte);
+            if !digits::is_dropped(byte) {
+                length = seen;
+            }
+        }
+        Line { present: false, length, input }
+    }
+}

@@ -1,0 +1,119 @@
+// Standard output.
+ghost use mathlib.Core.Path.{_≡_};
+ghost use Prim.Native.Nat.{_≤_};
+use libc::STDOUT_FILENO;
+use script::digits;
+
+// How many bytes wait at most.
+pub const SPACE: usize = 65536;
+
+const LF: u8 = 10;
+
+// The digits of the largest number.
+const MAX_DIGITS: usize = 20;
+
+// How many bytes wait to be written, and whether a write failed.
+pub struct Output {
+    pub waiting: usize,
+    pub closed: bool,
+}
+
+// Writes the first n bytes; false where a write fails or there are fewer.
+fn write_first(text: &[u8], n: usize) -> bool {
+    if text.len() < n {
+        return false;
+    }
+    io::write_all(STDOUT_FILENO, &text[0..n])
+}
+
+impl Output {
+    // Nothing waits.
+    pub fn new() -> Self {
+        Output { waiting: 0, closed: false }
+    }
+
+    // With nothing waiting: written, unless a write failed before.
+    pub fn drained(self, text: &[u8; SPACE]) -> Output
+        ensures { λ r. ⌜ r .waiting ≡ 0 ⌝ }
+    {
+        let n = self.waiting;
+        if self.closed {
+            return Output { waiting: 0, closed: true };
+        }
+        Output { waiting: 0, closed: !write_first(text, n) }
+    }
+
+    // One byte more.
+    pub fn byte(self, text: &mut [u8; SPACE], byte: u8) -> Output {
+        let at = self.waiting;
+        if at < SPACE {
+            text[at] = byte;
+            return Output { waiting: at + 1, closed: self.closed };
+        }
+        let next = self.drained(text);
+        text[0] = byte;
+        Output { waiting: 1, closed: next.closed }
+    }
+
+    // Bytes as they are.
+    pub fn bytes(self, text: &mut [u8; SPACE], bytes: &[u8]) -> Output {
+        let mut next = self;
+        let mut i = 0;
+        while i < bytes.len() {
+            next = next.byte(text, bytes[i]);
+            i += 1;
+        }
+        next
+    }
+
+    // The end of a line.
+    pub fn line_end(self, text: &mut [u8; SPACE]) -> Output {
+        self.byte(text, LF)
+    }
+
+    // A number in decimal.
+    pub fn decimal(self, text: &mut [u8; SPACE], n: usize) -> Output {
+        let mut spelled = [0u8; 20];
+        let k = io::decimal(n as u64, &mut spelled);
+        self.bytes(text, &spelled[..k])
+    }
+
+    // How many digits a number has in decimal.
+    pub fn decimal_width(n: usize) -> usize
+        ensures { λ r. ⌜ r ≤ 20 ⌝ }
+    {
+        let mut rest = n / 10;
+        let mut digits = 1;
+        while 0 < rest {
+            rest /= 10;
+            digits += 1;
+            if digits == MAX_DIGITS {
+                return digits;
+            }
+        }
+        digits
+    }
+
+    // A byte as two hexadecimal digits.
+    pub fn hex(self, text: &mut [u8; SPACE], byte: u8) -> Output {
+        let high = self.byte(text, digits::glyph(byte / 16));
+        high.byte(text, digits::glyph(byte % 16))
+    }
+
+    // Bytes in hexadecimal, with no blank between.
+    pub fn hex_bytes(self, text: &mut [u8; SPACE], bytes: &[u8]) -> Output {
+        let mut next = self;
+        let mut i = 0;
+        while i < bytes.len() {
+            next = next.hex(text, bytes[i]);
+            i += 1;
+        }
+        next
+    }
+
+    // An address or another two-byte number.
+    pub fn hex_pair(self, text: &mut [u8; SPACE], n: u16) -> Output {
+        let high = self.hex(text, (n / 256) as u8);
+        high.hex(text, (n % 256) as u8)
+    }
+}

@@ -1,0 +1,112 @@
+// Records and orders in hexadecimal, with a blank between their fields.
+ghost use Prim.Native.Nat.{_≤_};
+use console::input::MAX_LINE;
+use console::output::Output;
+use console::output::SPACE;
+
+// Kinds whose records or orders have more fields than the pass.
+const ANSWER: u8 = 4;
+
+const SET: u8 = 2;
+
+const NEW: u8 = 5;
+
+const INVALID: u8 = 6;
+
+// An event's third byte is its kind.
+pub fn kind_of(bytes: &[u8]) -> u8 {
+    if bytes.len() < 3 {
+        return 0;
+    }
+    bytes[2]
+}
+
+// A blank stands after byte n of an event, where more bytes follow.
+pub fn event_gap(kind: u8, n: usize) -> bool {
+    match n {
+        2 | 3 | 7 | 8 => true,
+        10 | 11 => kind == ANSWER,
+        _ => {
+            if n < 12 {
+                return false;
+            }
+            if kind != ANSWER {
+                return false;
+            }
+            n % 2 == 1
+        }
+    }
+}
+
+// A blank stands after byte n of an order, where more bytes follow.
+pub fn order_gap(kind: u8, n: usize) -> bool {
+    match n {
+        2 | 3 | 7 | 8 => true,
+        _ => {
+            if n < 10 {
+                return false;
+            }
+            match kind {
+                SET => true,
+                NEW | INVALID => n % 2 == 0,
+                _ => false,
+            }
+        }
+    }
+}
+
+// Two digits, and a blank before them.
+fn widened(width: usize, gap: bool) -> usize
+    requires { ⌜ width ≤ 16384 ⌝ }
+    ensures { λ r. ⌜ r ≤ 16387 ⌝ }
+{
+    if gap {
+        return width + 3;
+    }
+    width + 2
+}
+
+// An event has more characters than these.
+pub fn wider(bytes: &[u8], most: usize) -> bool {
+    let kind = kind_of(bytes);
+    let mut width = 0;
+    let mut i = 0;
+    while i < bytes.len() {
+        if MAX_LINE < width {
+            return true;
+        }
+        width = widened(width, event_gap(kind, i));
+        i += 1;
+    }
+    most < width
+}
+
+// An event's bytes.
+pub fn event(output: Output, text: &mut [u8; SPACE], bytes: &[u8]) -> Output {
+    let kind = kind_of(bytes);
+    let mut next = output;
+    let mut i = 0;
+    while i < bytes.len() {
+        if event_gap(kind, i) {
+            next = next.byte(text, b' ');
+        }
+        next = next.hex(text, bytes[i]);
+        i += 1;
+    }
+    next
+}
+
+// An order's bytes.
+pub fn order(output: Output, text: &mut [u8; SPACE], bytes: &[u8]) -> Output {
+    let kind = kind_of(bytes);
+    let mut next = output;
+    let mut i = 0;
+    while i < bytes.len() {
+        if order_gap(kind, i) {
+            next = next.byte(text, b' ');
+        }
+        next = next.hex(text, bytes[i]);
+        i += 1;
+    }
+    next
+}

@@ -1,0 +1,59 @@
+use borrow.Author.Needs.{needs}
+use Prim.Native.Nat.{_-_}
+use lib.ListN.{length}
+use Rattle.telegrams.proofs.fields.telegram.Statement.{statement}
+use Rattle.telegrams.proofs.fields.telegram.Tie as tie
+use Rattle.telegrams.proofs.fields.telegram.Reads as reads
+use Rattle.telegrams.proofs.fields.telegram.Lts as lts
+use Rattle.console.proofs.output.Output.byte.Reads as byte-reads
+use Rattle.console.proofs.output.Output.hex.Reads as hex-reads
+use Rattle.telegrams.proofs.fields.gap.Reads as gap-reads
+
+abbrev Inv-loop : tie.InvT-loop
+Inv-loop text₀ bytes next₀ i₀ text next i = Unit {0}
+
+abbrev μ-loop : tie.MeasureT-loop
+μ-loop text₀ bytes next₀ i₀ text next i = length bytes - i
+
+loop-holds : tie.Need-loop-holds Inv-loop μ-loop
+loop-holds c = search needs
+
+gap-requires : tie.Need-gap-requires Inv-loop μ-loop
+gap-requires c κs = search needs
+
+byte-requires : tie.Need-byte-requires Inv-loop μ-loop
+byte-requires c κs = search needs
+
+shared-slice-read-hex : tie.Need-shared-slice-read-hex Inv-loop μ-loop
+shared-slice-read-hex c = search needs
+
+hex-requires : tie.Need-hex-requires Inv-loop μ-loop
+hex-requires c κs = search needs
+
+add-i : tie.Need-add-i Inv-loop μ-loop
+add-i c = search needs
+
+loop-less : tie.Need-loop-less Inv-loop μ-loop
+loop-less c = search needs
+
+loop-again : tie.Need-loop-again Inv-loop μ-loop
+loop-again c = search needs
+
+returns : tie.Need-returns Inv-loop μ-loop
+returns c = search needs
+
+pub telegram-spec : {M : Type 1} → statement M
+telegram-spec =
+    tie.close
+    (tie.spec
+    Inv-loop
+    μ-loop
+    loop-holds
+    gap-requires
+    byte-requires
+    shared-slice-read-hex
+    hex-requires
+    add-i
+    loop-less
+    loop-again
+    returns)

@@ -1,0 +1,326 @@
+// Telegrams at the bench: a script from standard input, answered line by line. See docs/BENCH-SCRIPT.md.
+mod command;
+mod fields;
+mod help;
+
+ghost use Prim.Native.Nat.{_≤_};
+use command::Command;
+use command::MAX_BUFFER;
+use command::MAX_PAYLOAD;
+use command::MAX_TELEGRAM;
+use console::input::CHUNK;
+use console::input::Input;
+use console::input::MAX_LINE;
+use console::output::Output;
+use console::output::SPACE;
+use console::remarks;
+use console::remarks::LineKind;
+use reassembly::JoinAnswer;
+use reassembly::Reassembly;
+use script::arguments::TOO_LONG;
+
+// How many bytes the payload has, the join state, and what is written.
+struct Desk {
+    payload: usize,
+    joining: Reassembly,
+    output: Output,
+}
+
+// How many characters `join` and the blank behind it have.
+const JOIN_MARK: usize = 5;
+
+// The smaller of two numbers.
+fn smaller(a: usize, b: usize) -> usize
+    ensures { λ r. ⌜ (r ≤ a) × (r ≤ b) ⌝ }
+{
+    if a <= b {
+        return a;
+    }
+    b
+}
+
+// The same desk with more written.
+fn with_output(desk: Desk, output: Output) -> Desk {
+    let joining = desk.joining;
+    Desk { payload: desk.payload, joining, output }
+}
+
+// The first n of these bytes.
+fn copy(payload: &mut [u8], bytes: &[u8], n: usize) {
+    let mut i = 0;
+    while i < n {
+        if payload.len() <= i {
+            return;
+        }
+        if bytes.len() <= i {
+            return;
+        }
+        payload[i] = bytes[i];
+        i += 1;
+    }
+}
+
+// The payload from a line's bytes.
+fn set_payload(desk: Desk, text: &mut [u8; SPACE], bytes: &[u8], payload: &mut [u8]) -> Desk {
+    let size = smaller(bytes.len(), payload.len());
+    copy(payload, bytes, size);
+    let joining = desk.joining;
+    let output = desk.output;
+    let mut named = output.bytes(text, b"payload");
+    if 0 < bytes.len() {
+        let blank = named.byte(text, b' ');
+        named = blank.hex_bytes(text, bytes);
+    }
+    Desk { payload: size, joining, output: named.line_end(text) }
+}
+
+// Bytes of a pattern into the payload.
+fn pattern(payload: &mut [u8], n: usize, seed: usize) {
+    let start = seed % 256;
+    let mut i = 0;
+    while i < n {
+        if payload.len() <= i {
+            return;
+        }
+        payload[i] = ((i % 256 * 31 + i / 256 % 256 * 7 + start) % 256) as u8;
+        i += 1;
+    }
+}
+
+fn fill(desk: Desk, text: &mut [u8; SPACE], payload: &mut [u8], n: usize, seed: usize) -> Desk {
+    let size = smaller(n, payload.len());
+    pattern(payload, size, seed);
+    let joining = desk.joining;
+    let output = desk.output;
+    let name = output.bytes(text, b"fill ");
+    let sized = name.decimal(text, n);
+    let blank = sized.byte(text, b' ');
+    let seeded = blank.decimal(text, seed);
+    Desk { payload: size, joining, output: seeded.line_end(text) }
+}
+
+// The count of a payload's telegrams, or the refusal.
+fn counted(output: Output, text: &mut [u8; SPACE], payload: &[u8], l: usize) -> Output {
+    let answer = segmentation::count(l, payload);
+    let number = answer.number();
+    if number != 0 {
+        return remarks::refusal(output, text, number);
+    }
+    let name = output.bytes(text, b"= count ");
+    let told = name.decimal(text, answer.telegrams());
+    told.line_end(text)
+}
+
+fn count(output: Output, text: &mut [u8; SPACE], payload: &[u8], l: usize) -> Output {
+    let name = output.bytes(text, b"count ");
+    let asked = name.decimal(text, l);
+    let ended = asked.line_end(text);
+    counted(ended, text, payload, l)
+}
+
+// One telegram into `room`, or the refusal.
+fn telegram(output: Output, text: &mut [u8; SPACE], payload: &[u8], l: usize, msg_id: u32, number: usize, room: &mut [u8]) -> Output {
+    let answer = segmentation::cut(l, msg_id, payload, number, room);
+    let refused = answer.number();
+    if refused != 0 {
+        return remarks::refusal(output, text, refused);
+    }
+    let length = smaller(answer.length(), room.len());
+    let name = output.bytes(text, b"= telegram ");
+    let told = fields::telegram(name, text, &room[0..length]);
+    told.line_end(text)
+}
+
+// L and a MsgID.
+fn heading(output: Output, text: &mut [u8; SPACE], l: usize, msg_id: u32) -> Output {
+    let sized = output.decimal(text, l);
+    let blank = sized.byte(text, b' ');
+    fields::msg_id(blank, text, msg_id)
+}
+
+fn cut(output: Output, text: &mut [u8; SPACE], payload: &[u8], l: usize, msg_id: u32, number: usize, room: &mut [u8]) -> Output {
+    let name = output.bytes(text, b"cut ");
+    let headed = heading(name, text, l, msg_id);
+    let blank = headed.byte(text, b' ');
+    let numbered = blank.decimal(text, number);
+    let gap = numbered.byte(text, b' ');
+    let roomy = gap.decimal(text, room.len());
+    let ended = roomy.line_end(text);
+    telegram(ended, text, payload, l, msg_id, number, room)
+}
+
+// This many telegrams of the payload.
+fn each(output: Output, text: &mut [u8; SPACE], payload: &[u8], l: usize, msg_id: u32, telegrams: usize, room: &mut [u8]) -> Output {
+    let mut next = output;
+    let mut made = 0;
+    while made < telegrams {
+        made += 1;
+        next = telegram(next, text, payload, l, msg_id, made, room);
+    }
+    next
+}
+
+// All telegrams of the payload, or the refusal.
+fn cut_all(output: Output, text: &mut [u8; SPACE], payload: &[u8], l: usize, msg_id: u32, room: &mut [u8]) -> Output {
+    let name = output.bytes(text, b"cutall ");
+    let headed = heading(name, text, l, msg_id);
+    let ended = headed.line_end(text);
+    let next = counted(ended, text, payload, l);
+    let answer = segmentation::count(l, payload);
+    let telegrams = answer.telegrams();
+    each(next, text, payload, l, msg_id, telegrams, room)
+}
+
+// How many characters a join command has in its normal form, of a telegram of n bytes.
+fn join_width(l: usize, room: usize, n: usize) -> usize {
+    let named = JOIN_MARK + Output::decimal_width(l) + 1 + Output::decimal_width(room);
+    if n == 0 {
+        return named;
+    }
+    named + 1 + fields::width(n)
+}
+
+// The join command in its normal form.
+fn join_echo(output: Output, text: &mut [u8; SPACE], l: usize, room: usize, bytes: &[u8]) -> Output {
+    let name = output.bytes(text, b"join ");
+    let sized = name.decimal(text, l);
+    let blank = sized.byte(text, b' ');
+    let roomy = blank.decimal(text, room);
+    if bytes.len() == 0 {
+        return roomy.line_end(text);
+    }
+    let gap = roomy.byte(text, b' ');
+    let told = fields::telegram(gap, text, bytes);
+    told.line_end(text)
+}
+
+// A message that is complete.
+fn message(output: Output, text: &mut [u8; SPACE], msg_id: u32, bytes: &[u8]) -> Output {
+    let name = output.bytes(text, b"= message ");
+    let headed = fields::msg_id(name, text, msg_id);
+    let blank = headed.byte(text, b' ');
+    let sized = blank.decimal(text, bytes.len());
+    let ended = sized.line_end(text);
+    fields::message(ended, text, bytes)
+}
+
+// Offers a telegram with this join buffer.
+fn join(desk: Desk, text: &mut [u8; SPACE], buffer: &mut [u8], l: usize, bytes: &[u8]) -> Desk {
+    let output = desk.output;
+    let told = join_echo(output, text, l, buffer.len(), bytes);
+    let joining = desk.joining;
+    let joined = joining.join(l, buffer, bytes);
+    let answer = joined.answer;
+    let next = joined.state;
+    match answer {
+        JoinAnswer::Refused(number) => {
+            let refused = remarks::refusal(told, text, number);
+            Desk { payload: desk.payload, joining: next, output: refused }
+        }
+        JoinAnswer::Open => {
+            let opened = told.line(text, b"= open");
+            Desk { payload: desk.payload, joining: next, output: opened }
+        }
+        JoinAnswer::Complete { msg_id, length } => {
+            let size = smaller(length, buffer.len());
+            let whole = message(told, text, msg_id, &buffer[0..size]);
+            Desk { payload: desk.payload, joining: next, output: whole }
+        }
+    }
+}
+
+// A command line.
+fn obey(desk: Desk, text: &mut [u8; SPACE], line: &[u8], bytes: &mut [u8], payload: &mut [u8], room: &mut [u8], buffer: &mut [u8]) -> Desk {
+    let command = command::parse(line, bytes);
+    let output = desk.output;
+    let size = smaller(desk.payload, payload.len());
+    match command {
+        Command::NotUnderstood(reason) => with_output(desk, remarks::not_understood(output, text, line, reason)),
+        Command::Payload(n) => {
+            let length = smaller(n, bytes.len());
+            set_payload(desk, text, &bytes[0..length], payload)
+        }
+        Command::Fill { n, seed } => fill(desk, text, payload, n, seed),
+        Command::Count(l) => with_output(desk, count(output, text, &payload[0..size], l)),
+        Command::Cut { l, msg_id, number, room: n } => {
+            let lent = smaller(n, room.len());
+            with_output(desk, cut(output, text, &payload[0..size], l, msg_id, number, &mut room[0..lent]))
+        }
+        Command::CutAll { l, msg_id } => with_output(desk, cut_all(output, text, &payload[0..size], l, msg_id, room)),
+        Command::Rejoin => {
+            let joining = Reassembly::fresh();
+            Desk { payload: desk.payload, joining, output: output.line(text, b"rejoin") }
+        }
+        Command::Join { l, room: n, n: length } => {
+            let lent = smaller(n, buffer.len());
+            let known = smaller(length, bytes.len());
+            if MAX_LINE < join_width(l, n, known) {
+                return with_output(desk, remarks::not_understood(output, text, line, TOO_LONG));
+            }
+            join(desk, text, &mut buffer[0..lent], l, &bytes[0..known])
+        }
+    }
+}
+
+// A line of any kind.
+fn answer(desk: Desk, text: &mut [u8; SPACE], line: &[u8], bytes: &mut [u8], payload: &mut [u8], room: &mut [u8], buffer: &mut [u8]) -> Desk {
+    let kind = remarks::kind_of(line);
+    let output = desk.output;
+    match kind {
+        LineKind::Remark => with_output(desk, output.line(text, line)),
+        LineKind::EarlierAnswer => desk,
+        LineKind::Offer => obey(desk, text, line, bytes, payload, room, buffer),
+    }
+}
+
+// A line as it was read, of up to `length` bytes, or a too long one.
+fn if_fits(desk: Desk, text: &mut [u8; SPACE], line: &[u8], length: usize, bytes: &mut [u8], payload: &mut [u8], room: &mut [u8], buffer: &mut [u8]) -> Desk {
+    let output = desk.output;
+    if line.len() < length {
+        return with_output(desk, remarks::not_understood(output, text, line, TOO_LONG));
+    }
+    answer(desk, text, &line[0..length], bytes, payload, room, buffer)
+}
+
+// A line as it was read, and nothing left waiting to be written.
+fn turn(desk: Desk, text: &mut [u8; SPACE], line: &[u8; MAX_LINE], length: usize, bytes: &mut [u8; MAX_TELEGRAM], payload: &mut [u8; MAX_PAYLOAD], room: &mut [u8; MAX_PAYLOAD], buffer: &mut [u8; MAX_BUFFER]) -> Desk {
+    let next = if_fits(desk, text, line, length, bytes, payload, room, buffer);
+    let written = next.output;
+    with_output(next, written.drained(text))
+}
+
+// The script, line by line, up to its end or to a failed write.
+fn play() {
+    let mut chunk = [0u8; CHUNK];
+    let mut line = [0u8; MAX_LINE];
+    let mut text = [0u8; SPACE];
+    let mut bytes = [0u8; MAX_TELEGRAM];
+    let mut payload = [0u8; MAX_PAYLOAD];
+    let mut room = [0u8; MAX_PAYLOAD];
+    let mut buffer = [0u8; MAX_BUFFER];
+    let mut desk = Desk { payload: 0, joining: Reassembly::fresh(), output: Output::new() };
+    let mut input = Input::new();
+    // A loop has to end; no script is as long as this.
+    let mut turns = u64::MAX;
+    while 0 < turns {
+        turns -= 1;
+        let read = input.line(&mut chunk, &mut line);
+        if !read.present {
+            return;
+        }
+        input = read.input;
+        desk = turn(desk, &mut text, &line, read.length, &mut bytes, &mut payload, &mut room, &mut buffer);
+        let output = desk.output;
+        if output.closed {
+            return;
+        }
+    }
+}
+
+fn main() {
+    if 1 < os::arg_count() {
+        help::write();
+        return;
+    }
+    play();
+}

@@ -1,0 +1,12 @@
+//! A second implementation of the registry of a MOST ring and of the cutting and joining of telegrams.
+
+pub mod generate;
+pub mod player;
+pub mod registry;
+pub mod telegrams;
+
+/// The hand-written scripts that play every edge and every outside vector.
+pub mod scripts {
+    pub const RINGBOX_EDGES: &str = include_str!("../scripts/ringbox-edges.txt");
+    pub const TELEGRAMS_EDGES: &str = include_str!("../scripts/telegrams-edges.txt");
+}

@@ -1,0 +1,199 @@
+//! The player of bench scripts: reads lines, answers each command.
+
+mod ringbox;
+mod telegrams;
+mod words;
+
+use std::io::{self, BufRead, Write};
+
+pub use ringbox::Ringbox;
+pub use telegrams::Telegrams;
+use words::Words;
+
+/// The most bytes of a line.
+pub const MAX_LINE: usize = 16_384;
+const TOO_LONG: &str = "line of more than 16384 bytes";
+const PREFIX: usize = 64;
+
+/// Why a line is no command.
+type Reason = &'static str;
+
+/// A bench that answers commands.
+pub trait Bench {
+    type Command;
+
+    /// Reads a command.
+    fn read(line: &[u8]) -> Result<Self::Command, Reason>;
+
+    /// Writes the normal form, without the line's end.
+    fn normal_form(command: &Self::Command, out: &mut Vec<u8>);
+
+    /// Carries the command out and writes its answer, whole lines.
+    fn answer(&mut self, command: Self::Command, out: &mut Vec<u8>);
+}
+
+/// Plays a whole script.
+pub fn play<B: Bench>(bench: &mut B, input: &mut impl BufRead, output: &mut impl Write) -> io::Result<()> {
+    let mut line = Line::default();
+    let mut out = Vec::new();
+    while line.read(input)? {
+        out.clear();
+        match line.content() {
+            Some(content) => play_line(bench, content, &mut out),
+            None => not_understood(line.prefix(), TOO_LONG, &mut out),
+        }
+        output.write_all(&out)?;
+    }
+    output.flush()
+}
+
+/// Plays a script that is at hand as a whole.
+pub fn play_bytes<B: Bench>(bench: &mut B, mut script: &[u8]) -> Vec<u8> {
+    let mut output = Vec::new();
+    play(bench, &mut script, &mut output).expect("a vector takes all bytes");
+    output
+}
+
+fn play_line<B: Bench>(bench: &mut B, line: &[u8], out: &mut Vec<u8>) {
+    match line.first() {
+        None | Some(b'#') => {
+            out.extend_from_slice(line);
+            out.push(b'\n');
+        }
+        Some(b'=' | b'<' | b'!') => {}
+        Some(_) => play_command(bench, line, out),
+    }
+}
+
+fn play_command<B: Bench>(bench: &mut B, line: &[u8], out: &mut Vec<u8>) {
+    match B::read(line) {
+        Ok(command) => {
+            B::normal_form(&command, out);
+            if out.len() > MAX_LINE {
+                out.clear();
+                return not_understood(&line[..line.len().min(PREFIX)], TOO_LONG, out);
+            }
+            out.push(b'\n');
+            bench.answer(command, out);
+        }
+        Err(_) if line.len() + 2 > MAX_LINE => not_understood(&line[..PREFIX], TOO_LONG, out),
+        Err(reason) => not_understood(line, reason, out),
+    }
+}
+
+/// Writes a line back as a comment, and the reason.
+fn not_understood(line: &[u8], reason: Reason, out: &mut Vec<u8>) {
+    out.extend_from_slice(b"# ");
+    out.extend_from_slice(line);
+    while out.last().is_some_and(|&byte| is_dropped(byte)) {
+        out.pop();
+    }
+    out.extend_from_slice(b"\n# not understood: ");
+    out.extend_from_slice(reason.as_bytes());
+    out.push(b'\n');
+}
+
+/// Bytes that are dropped at the end of a line.
+fn is_dropped(byte: u8) -> bool {
+    matches!(byte, b' ' | b'\t' | b'\r')
+}
+
+/// One line of the input, of which no more than `MAX_LINE` bytes are stored.
+#[derive(Default)]
+struct Line {
+    stored: Vec<u8>,
+    raw: usize,
+    trimmed: usize,
+}
+
+impl Line {
+    /// Reads the next line; says whether there is one.
+    fn read(&mut self, input: &mut impl BufRead) -> io::Result<bool> {
+        self.stored.clear();
+        self.raw = 0;
+        self.trimmed = 0;
+        loop {
+            let chunk = match input.fill_buf() {
+                Ok(chunk) => chunk,
+                Err(error) if error.kind() == io::ErrorKind::Interrupted => continue,
+                Err(error) => return Err(error),
+            };
+            if chunk.is_empty() {
+                return Ok(self.raw > 0);
+            }
+            let end = chunk.iter().position(|&byte| byte == b'\n');
+            let part = &chunk[..end.unwrap_or(chunk.len())];
+            self.add(part);
+            let used = part.len() + usize::from(end.is_some());
+            input.consume(used);
+            if end.is_some() {
+                return Ok(true);
+            }
+        }
+    }
+
+    fn add(&mut self, part: &[u8]) {
+        if let Some(last) = part.iter().rposition(|&byte| !is_dropped(byte)) {
+            self.trimmed = self.raw + last + 1;
+        }
+        let room = MAX_LINE - self.stored.len();
+        self.stored.extend_from_slice(&part[..part.len().min(room)]);
+        self.raw += part.len();
+    }
+
+    /// What remains of the line, unless it is too long.
+    fn content(&self) -> Option<&[u8]> {
+        (self.trimmed <= MAX_LINE).then(|| &self.stored[..self.trimmed])
+    }
+
+    /// The first bytes of a line that is too long.
+    fn prefix(&self) -> &[u8] {
+        &self.stored[..PREFIX]
+    }
+}
+
+/// Writes bytes as hexadecimal digits.
+fn put_hex(out: &mut Vec<u8>, bytes: &[u8]) {
+    const DIGITS: &[u8; 16] = b"0123456789ABCDEF";
+    for &byte in bytes {
+        out.push(DIGITS[byte as usize >> 4]);
+        out.push(DIGITS[byte as usize & 15]);
+    }
+}
+
+/// Writes text.
+macro_rules! put {
+    ($out:expr, $($words:tt)*) => {
+        std::io::Write::write_fmt($out, format_args!($($words)*)).expect("a vector takes all bytes")
+    };
+}
+use put;
+
+/// Writes a refusal.
+fn put_refusal(out: &mut Vec<u8>, number: u8) {
+    put!(out, "! {number}  {}\n", meaning(number));
+}
+
+fn meaning(number: u8) -> &'static str {
+    match number {
+        1 => "order room below 512 bytes",
+        2 => "record malformed",
+        3 => "the ring does not run",
+        4 => "the ring runs already",
+        5 => "not the current pass",
+        6 => "no unit at this position",
+        7 => "the position is ignored",
+        8 => "no open question, or no running delay",
+        9 => "no pass is left",
+        10 => "L is not 12 to 45",
+        11 => "payload above 65535 bytes",
+        12 => "no telegram of this number",
+        13 => "lent room too short",
+        14 => "telegram malformed",
+        15 => "TelID above 3: passed over",
+        16 => "out of sequence: an open message is dropped",
+        17 => "not listed",
+        18 => "the state is not OK",
+        _ => "unknown number",
+    }
+}

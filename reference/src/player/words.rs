@@ -1,0 +1,104 @@
+//! The words of a command line.
+
+use super::Reason;
+
+/// What is left of a line.
+pub struct Words<'a>(&'a [u8]);
+
+impl<'a> Words<'a> {
+    pub fn new(line: &'a [u8]) -> Words<'a> {
+        Words(line)
+    }
+
+    /// The first word; of a word that begins with `>` this is `>` alone.
+    pub fn command(&mut self) -> &'a [u8] {
+        self.skip_blanks();
+        match self.0.split_first_chunk::<1>() {
+            Some((mark @ b">", rest)) => {
+                self.0 = rest;
+                mark
+            }
+            _ => self.next().unwrap_or_default(),
+        }
+    }
+
+    fn skip_blanks(&mut self) {
+        let blanks = self.0.iter().take_while(|&&byte| is_blank(byte)).count();
+        self.0 = &self.0[blanks..];
+    }
+
+    /// A decimal number up to `limit`.
+    pub fn decimal(&mut self, limit: u32) -> Result<u32, Reason> {
+        let word = self.next().ok_or("a word is missing")?;
+        if !word.iter().all(u8::is_ascii_digit) {
+            return Err("not a decimal number");
+        }
+        let mut value = 0u64;
+        for digit in word {
+            value = (value * 10 + u64::from(digit - b'0')).min(u64::from(u32::MAX) + 1);
+        }
+        if value > u64::from(limit) {
+            return Err("number does not fit");
+        }
+        Ok(value as u32)
+    }
+
+    /// A word of exactly `digits` hexadecimal digits.
+    pub fn hex_word(&mut self, digits: usize) -> Result<u32, Reason> {
+        let word = self.next().ok_or("a word is missing")?;
+        if !word.iter().all(u8::is_ascii_hexdigit) {
+            return Err("not hexadecimal");
+        }
+        if word.len() != digits {
+            return Err("wrong number of hex digits");
+        }
+        Ok(word.iter().fold(0, |value, &digit| value << 4 | u32::from(digit_value(digit))))
+    }
+
+    /// The bytes of all groups that are left.
+    pub fn hex_bytes(&mut self) -> Result<Vec<u8>, Reason> {
+        let mut bytes = Vec::new();
+        for group in self {
+            if !group.iter().all(u8::is_ascii_hexdigit) {
+                return Err("not hexadecimal");
+            }
+            if group.len() % 2 == 1 {
+                return Err("odd number of hex digits");
+            }
+            bytes.extend(group.chunks_exact(2).map(|byte| digit_value(byte[0]) << 4 | digit_value(byte[1])));
+        }
+        Ok(bytes)
+    }
+
+    /// No word may be left.
+    pub fn end(&mut self) -> Result<(), Reason> {
+        match self.next() {
+            None => Ok(()),
+            Some(_) => Err("a word too many"),
+        }
+    }
+}
+
+impl<'a> Iterator for Words<'a> {
+    type Item = &'a [u8];
+
+    fn next(&mut self) -> Option<&'a [u8]> {
+        self.skip_blanks();
+        let length = self.0.iter().take_while(|&&byte| !is_blank(byte)).count();
+        let (word, rest) = self.0.split_at(length);
+        self.0 = rest;
+        (length > 0).then_some(word)
+    }
+}
+
+fn is_blank(byte: u8) -> bool {
+    matches!(byte, b' ' | b'\t')
+}
+
+/// The byte must be a hexadecimal digit.
+fn digit_value(digit: u8) -> u8 {
+    match digit {
+        b'0'..=b'9' => digit - b'0',
+        _ => (digit | 0x20) - b'a' + 10,
+    }
+}

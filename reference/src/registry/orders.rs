@@ -1,0 +1,84 @@
+//! The writing of orders into lent room.
+
+use super::Pair;
+
+const ASK: u8 = 1;
+const SET: u8 = 2;
+const OK: u8 = 3;
+const NOTOK: u8 = 4;
+const NEW: u8 = 5;
+const INVALID: u8 = 6;
+const WAIT_SHORT: u8 = 7;
+const WAIT_LONG: u8 = 8;
+
+/// Order room and how much of it is written.
+pub struct Orders<'a> {
+    room: &'a mut [u8],
+    length: usize,
+}
+
+impl<'a> Orders<'a> {
+    pub fn new(room: &'a mut [u8]) -> Orders<'a> {
+        Orders { room, length: 0 }
+    }
+
+    pub fn length(&self) -> usize {
+        self.length
+    }
+
+    fn put<const K: usize>(&mut self, bytes: [u8; K]) {
+        self.room[self.length..self.length + K].copy_from_slice(&bytes);
+        self.length += K;
+    }
+
+    fn head(&mut self, kind: u8, pass: u32) {
+        let [p0, p1, p2, p3] = pass.to_be_bytes();
+        self.put([0x4D, 0x4F, kind, p0, p1, p2, p3]);
+    }
+
+    pub fn ask(&mut self, pass: u32, position: u8) {
+        self.head(ASK, pass);
+        self.put([position]);
+    }
+
+    pub fn set(&mut self, pass: u32, position: u8, address: u16, pair: Pair, number: u8) {
+        let [high, low] = address.to_be_bytes();
+        self.head(SET, pass);
+        self.put([position, high, low, pair.block, pair.number, number]);
+    }
+
+    pub fn ok(&mut self, pass: u32) {
+        self.head(OK, pass);
+    }
+
+    pub fn not_ok(&mut self, pass: u32) {
+        self.head(NOTOK, pass);
+    }
+
+    pub fn wait(&mut self, pass: u32, short: bool) {
+        self.head(if short { WAIT_SHORT } else { WAIT_LONG }, pass);
+    }
+
+    /// INVALID for the pairs of `before` that are not in `after`, at most `size` in an order.
+    pub fn invalid(&mut self, pass: u32, size: usize, before: &[Pair], after: &[Pair]) {
+        self.difference(INVALID, pass, size, before, after);
+    }
+
+    /// NEW for the pairs of `after` that are not in `before`, at most `size` in an order.
+    pub fn new_pairs(&mut self, pass: u32, size: usize, before: &[Pair], after: &[Pair]) {
+        self.difference(NEW, pass, size, after, before);
+    }
+
+    fn difference(&mut self, kind: u8, pass: u32, size: usize, of: &[Pair], without: &[Pair]) {
+        let mut count_at = 0;
+        for (index, pair) in of.iter().filter(|pair| !without.contains(pair)).enumerate() {
+            if index % size == 0 {
+                self.head(kind, pass);
+                count_at = self.length;
+                self.put([0]);
+            }
+            self.put([pair.block, pair.number]);
+            self.room[count_at] += 1;
+        }
+    }
+}

@@ -3,9 +3,7 @@
 set -eu
 cd "$(dirname "$0")/.."
 
-if [ ! -f target/staticlib/liblathepetal.a ]; then
-    rt staticlib lathepetal
-fi
+tools/library
 mkdir -p target/examples
 
 gcc -std=c99 -Wall -Wextra -Werror -O2 -Iinclude examples/session.c target/staticlib/liblathepetal.a -o target/examples/session-c

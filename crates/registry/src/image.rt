@@ -10,13 +10,9 @@ use closing::state::OFF;
 use closing::state::RegistryState;
 use closing::state::STOPPED;
 use node::entry::NodeEntry;
-
-// L, the payload size of a telegram.
-pub const MIN_SIZE: usize = 12;
-
-pub const MAX_SIZE: usize = 45;
-
-pub const ILLEGAL_SIZE: u8 = 10;
+use telegram::limits::ILLEGAL_SIZE;
+use telegram::limits::MAX_SIZE;
+use telegram::limits::MIN_SIZE;
 
 // The paper's ring picture: the pass, the state, whether a delay runs, L, and an entry for each unit of the ring, the first `units` of
 // the array.

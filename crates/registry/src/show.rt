@@ -99,7 +99,7 @@ impl RegistryImage {
         self.entries[x - 1]
     }
 
-    // The whole listing, by position and announced order; empty where the ring does not run.
+    // The whole listing, by position and announced order.
     pub fn listing(self) -> Listing
         ensures { λ r. ⌜ (r ≡ flatOf (listing (viewOf self))) × (length (listing (viewOf self)) ≤ 1008) ⌝ }
     {

@@ -2,7 +2,7 @@
 ghost use mathlib.Core.Path.{_≡_};
 ghost use mathlib.Core.List.{_++_};
 ghost use Prim.Native.Nat.{_+_, _*_, _/_, _≤_, _<_};
-ghost use lib.ListN.{length};
+ghost use lib.ListN.{length, take, drop};
 ghost use lib.Seq.{sets};
 ghost use Rattle.rules.specs.Event.{be4, four};
 ghost use Rattle.rules.specs.Telegram.{headBytes, telIdOf, telLenOf, malformed};
@@ -21,15 +21,32 @@ pub const TEL_ID_NEXT: u32 = 2;
 
 pub const TEL_ID_FINAL: u32 = 3;
 
-// Copies `part` into `buffer`, from `at` on.
+// Eight bytes of `part`, from `from` on. All are read before one is written, so that they move as one word.
+fn copy8(buffer: &mut [u8], at: usize, part: &[u8], from: usize)
+    requires { ⌜ (at + 8 ≤ length (now buffer)) × (from + 8 ≤ length (now part)) ⌝ }
+    ensures { λ _. ⌜ now (buffer .exit) ≡ sets (now (buffer .entry)) at (take 8 (drop from (now (part .entry)))) ⌝ }
+{
+    let high = octets::read4(part, from);
+    let low = octets::read4(part, from + 4);
+    octets::write4(buffer, at, high);
+    octets::write4(buffer, at + 4, low);
+}
+
+// Copies `part` into `buffer`, from `at` on: as many bytes as leave words of eight, then these words.
 pub fn store(buffer: &mut [u8], at: usize, part: &[u8])
     requires { ⌜ at + length (now part) ≤ length (now buffer) ⌝ }
     ensures { λ _. ⌜ now (buffer .exit) ≡ sets (now (buffer .entry)) at (now (part .entry)) ⌝ }
 {
+    let n = part.len();
+    let odd = n % 8;
     let mut i = 0;
-    while i < part.len() {
+    while i < odd {
         buffer[at + i] = part[i];
         i += 1;
+    }
+    while i < n {
+        copy8(buffer, at + i, part, i);
+        i += 8;
     }
 }
 

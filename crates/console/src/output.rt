@@ -116,4 +116,38 @@ impl Output {
         let high = self.hex(text, (n / 256) as u8);
         high.hex(text, (n % 256) as u8)
     }
+
+    // A value: two hexadecimal digits for b, four for w, decimal for anything else.
+    fn value(self, text: &mut [u8; SPACE], kind: u8, value: usize) -> Output {
+        match kind {
+            b'b' => self.hex(text, (value % 256) as u8),
+            b'w' => self.hex_pair(text, (value % 65536) as u16),
+            _ => self.decimal(text, value),
+        }
+    }
+
+    // A template with the values in it, from the first on: %d stands for one in decimal, %b for two hexadecimal digits, %w for four.
+    pub fn form(self, text: &mut [u8; SPACE], template: &[u8], values: &[usize]) -> Output {
+        let mut next = self;
+        let mut used = 0;
+        let mut i = 0;
+        while i < template.len() {
+            let byte = template[i];
+            if byte == b'%' {
+                if template.len() - i < 2 {
+                    return next;
+                }
+                if values.len() <= used {
+                    return next;
+                }
+                next = next.value(text, template[i + 1], values[used]);
+                used += 1;
+                i += 2;
+            } else {
+                next = next.byte(text, byte);
+                i += 1;
+            }
+        }
+        next
+    }
 }

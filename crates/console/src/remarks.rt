@@ -103,9 +103,8 @@ fn shown_line(output: Output, text: &mut [u8; SPACE], bytes: &[u8]) -> Output {
 
 // A refusal: its number and what that means.
 pub fn refusal(output: Output, text: &mut [u8; SPACE], number: u8) -> Output {
-    let mark = output.bytes(text, b"! ");
-    let named = mark.decimal(text, number as usize);
-    let next = named.bytes(text, b"  ");
+    let values = [number as usize];
+    let next = output.form(text, b"! %d  ", &values);
     if number < 10 {
         return of_record(next, text, number);
     }

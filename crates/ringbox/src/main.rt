@@ -37,22 +37,19 @@ fn fresh(bench: Bench, text: &mut [u8; SPACE], l: usize) -> Bench
     ensures { λ r. ⌜ Reached (viewOf (r .picture)) ⌝ }
 {
     let output = bench.output;
-    let name = output.bytes(text, b"fresh ");
-    let asked = name.decimal(text, l);
-    let ended = asked.line_end(text);
+    let values = [l];
+    let asked = output.form(text, b"fresh %d\n", &values);
     let made = RegistryImage::fresh(l);
     let answer = made.answer;
     let picture = made.picture;
     let number = answer.number();
     let room = bench.room;
     if number != 0 {
-        let refused = remarks::refusal(ended, text, number);
+        let refused = remarks::refusal(asked, text, number);
         return Bench { picture, room, output: refused };
     }
-    let told = ended.bytes(text, b"= fresh ");
-    let size = told.decimal(text, l);
-    let done = size.line_end(text);
-    Bench { picture, room, output: done }
+    let told = asked.form(text, b"= fresh %d\n", &values);
+    Bench { picture, room, output: told }
 }
 
 // The order room lent from now on.
@@ -61,11 +58,10 @@ fn room(bench: Bench, text: &mut [u8; SPACE], n: usize) -> Bench
     ensures { λ r. ⌜ Reached (viewOf (r .picture)) ⌝ }
 {
     let output = bench.output;
-    let name = output.bytes(text, b"room ");
-    let asked = name.decimal(text, n);
-    let ended = asked.line_end(text);
+    let values = [n];
+    let asked = output.form(text, b"room %d\n", &values);
     let picture = bench.picture;
-    Bench { picture, room: n, output: ended }
+    Bench { picture, room: n, output: asked }
 }
 
 // The smaller of two numbers.
@@ -124,11 +120,8 @@ fn not_understood(bench: Bench, text: &mut [u8; SPACE], line: &[u8], reason: u8)
 
 // A look-up in its normal form.
 fn look_up_echo(output: Output, text: &mut [u8; SPACE], block: u8, number: u8) -> Output {
-    let name = output.bytes(text, b"lookup ");
-    let first = name.hex(text, block);
-    let blank = first.byte(text, b' ');
-    let second = blank.hex(text, number);
-    second.line_end(text)
+    let values = [block as usize, number as usize];
+    output.form(text, b"lookup %b %b\n", &values)
 }
 
 // A command that changes nothing.

@@ -63,14 +63,13 @@ fn order_end(bytes: &[u8], at: usize) -> usize
     at + length
 }
 
-// A block and a number, as 22.01.
+// A block and a number behind a blank, as 22.01.
 pub fn pair(output: Output, text: &mut [u8; SPACE], block: u8, number: u8) -> Output {
-    let first = output.hex(text, block);
-    let point = first.byte(text, b'.');
-    point.hex(text, number)
+    let values = [block as usize, number as usize];
+    output.form(text, b" %b.%b", &values)
 }
 
-// The pairs of a NEW or an INVALID, a blank before each.
+// The pairs of a NEW or an INVALID.
 fn pairs(output: Output, text: &mut [u8; SPACE], bytes: &[u8]) -> Output {
     let mut next = output;
     let mut i = WITH_COUNT;
@@ -78,8 +77,7 @@ fn pairs(output: Output, text: &mut [u8; SPACE], bytes: &[u8]) -> Output {
         if bytes.len() - i < 2 {
             return next;
         }
-        let blank = next.byte(text, b' ');
-        next = pair(blank, text, bytes[i], bytes[i + 1]);
+        next = pair(next, text, bytes[i], bytes[i + 1]);
         i += 2;
     }
     next
@@ -87,35 +85,21 @@ fn pairs(output: Output, text: &mut [u8; SPACE], bytes: &[u8]) -> Output {
 
 // An ASK in words.
 fn ask(output: Output, text: &mut [u8; SPACE], bytes: &[u8]) -> Output {
-    let next = output.bytes(text, b"ASK position ");
     if bytes.len() < WITH_COUNT {
-        return next;
+        return output;
     }
-    next.decimal(text, wide(bytes[7]))
-}
-
-// An address in brackets.
-fn bracketed(output: Output, text: &mut [u8; SPACE], high: u8, low: u8) -> Output {
-    let opened = output.bytes(text, b" (");
-    let first = opened.hex(text, high);
-    let second = first.hex(text, low);
-    second.bytes(text, b"): ")
+    let values = [wide(bytes[7])];
+    output.form(text, b"ASK position %d", &values)
 }
 
 // A SET in words.
 fn set(output: Output, text: &mut [u8; SPACE], bytes: &[u8]) -> Output {
-    let name = output.bytes(text, b"SET position ");
     if bytes.len() < SET_LENGTH {
-        return name;
+        return output;
     }
-    let block = bytes[10];
-    let old = bytes[11];
-    let new = bytes[12];
-    let position = name.decimal(text, wide(bytes[7]));
-    let address = bracketed(position, text, bytes[8], bytes[9]);
-    let former = pair(address, text, block, old);
-    let becomes = former.bytes(text, b" becomes ");
-    pair(becomes, text, block, new)
+    let block = wide(bytes[10]);
+    let values = [wide(bytes[7]), wide(bytes[8]), wide(bytes[9]), block, wide(bytes[11]), block, wide(bytes[12])];
+    output.form(text, b"SET position %d (%b%b): %b.%b becomes %b.%b", &values)
 }
 
 // An order in words.

@@ -28,37 +28,25 @@ fn state_name(output: Output, text: &mut [u8; SPACE], state: u8) -> Output {
 // The state on one line.
 pub fn state(output: Output, text: &mut [u8; SPACE], picture: RegistryImage) -> Output {
     let state = picture.current_state();
-    let name = state_name(output, text, state.0);
-    let pass = name.bytes(text, b" pass ");
-    let passed = pass.decimal(text, picture.current_pass() as usize);
-    let nodes = passed.bytes(text, b" nodes ");
-    let counted = nodes.decimal(text, picture.nodes());
-    let questions = counted.bytes(text, b" open ");
-    let asked = questions.decimal(text, picture.open_questions());
+    let named = state_name(output, text, state.0);
+    let values = [picture.current_pass() as usize, picture.nodes(), picture.open_questions()];
+    let told = named.form(text, b" pass %d nodes %d open %d", &values);
     if picture.delay_runs() {
-        return asked.line(text, b" delay yes");
+        return told.line(text, b" delay yes");
     }
-    asked.line(text, b" delay no")
+    told.line(text, b" delay no")
 }
 
 // One entry of a listing.
 fn listed(output: Output, text: &mut [u8; SPACE], position: u8, address: u16, block: u8, number: u8) -> Output {
-    let mark = output.bytes(text, b"= ");
-    let placed = mark.decimal(text, position as usize);
-    let gap = placed.byte(text, b' ');
-    let addressed = gap.hex_pair(text, address);
-    let blank = addressed.byte(text, b' ');
-    let named = blank.hex(text, block);
-    let between = named.byte(text, b' ');
-    let numbered = between.hex(text, number);
-    numbered.line_end(text)
+    let values = [position as usize, address as usize, block as usize, number as usize];
+    output.form(text, b"= %d %w %b %b\n", &values)
 }
 
 // The listing, an entry on each line.
 pub fn listing(output: Output, text: &mut [u8; SPACE], listing: Listing) -> Output {
-    let name = output.bytes(text, b"= listing ");
-    let counted = name.decimal(text, listing.count);
-    let mut next = counted.line_end(text);
+    let values = [listing.count];
+    let mut next = output.form(text, b"= listing %d\n", &values);
     let mut i = 0;
     while i < MAX_LISTED {
         if listing.count <= i {
@@ -83,13 +71,10 @@ pub fn found(output: Output, text: &mut [u8; SPACE], found: Lookup) -> Output {
     if number != 0 {
         return remarks::refusal(output, text, number);
     }
-    let name = output.bytes(text, b"= at ");
     let position = found.position();
-    let placed = name.decimal(text, position.0 as usize);
-    let blank = placed.byte(text, b' ');
     let address = found.address();
-    let addressed = blank.hex_pair(text, address.0);
-    addressed.line_end(text)
+    let values = [position.0 as usize, address.0 as usize];
+    output.form(text, b"= at %d %w\n", &values)
 }
 
 fn status_name(output: Output, text: &mut [u8; SPACE], status: u8) -> Output {
@@ -114,8 +99,7 @@ fn kept_pairs(output: Output, text: &mut [u8; SPACE], pairs: Pairs) -> Output {
     let n = pairs.len();
     let mut i = 0;
     while i < n {
-        let blank = next.byte(text, b' ');
-        next = orders::pair(blank, text, pairs.blocks[i], pairs.numbers[i]);
+        next = orders::pair(next, text, pairs.blocks[i], pairs.numbers[i]);
         i += 1;
     }
     next
@@ -123,17 +107,15 @@ fn kept_pairs(output: Output, text: &mut [u8; SPACE], pairs: Pairs) -> Output {
 
 // One row.
 fn row(output: Output, text: &mut [u8; SPACE], position: u8, entry: NodeEntry) -> Output {
-    let mark = output.bytes(text, b"= ");
-    let placed = mark.decimal(text, position as usize);
+    let places = [position as usize];
+    let placed = output.form(text, b"= %d", &places);
     let status = entry.status;
     let named = status_name(placed, text, status.0);
     let address = entry.address;
     let addressed = kept_address(named, text, status.0, address.0);
-    let bad = addressed.bytes(text, b" bad ");
-    let counted = bad.decimal(text, entry.bad as usize);
-    let silent = counted.bytes(text, b" silent ");
-    let silences = silent.decimal(text, entry.silences as usize);
-    let told = kept_pairs(silences, text, entry.pairs());
+    let counts = [entry.bad as usize, entry.silences as usize];
+    let counted = addressed.form(text, b" bad %d silent %d", &counts);
+    let told = kept_pairs(counted, text, entry.pairs());
     told.line_end(text)
 }
 

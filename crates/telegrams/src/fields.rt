@@ -45,12 +45,6 @@ pub fn telegram(output: Output, text: &mut [u8; SPACE], bytes: &[u8]) -> Output 
     next
 }
 
-// A MsgID.
-pub fn msg_id(output: Output, text: &mut [u8; SPACE], id: u32) -> Output {
-    let high = output.hex_pair(text, (id / 65536) as u16);
-    high.hex_pair(text, (id % 65536) as u16)
-}
-
 // Where a line of a message ends that begins at `at`.
 fn line_end(at: usize, all: usize) -> usize
     requires { ⌜ at < all ⌝ }

@@ -92,11 +92,9 @@ fn fill(desk: Desk, text: &mut [u8; SPACE], payload: &mut [u8], n: usize, seed: 
     pattern(payload, size, seed);
     let joining = desk.joining;
     let output = desk.output;
-    let name = output.bytes(text, b"fill ");
-    let sized = name.decimal(text, n);
-    let blank = sized.byte(text, b' ');
-    let seeded = blank.decimal(text, seed);
-    Desk { payload: size, joining, output: seeded.line_end(text) }
+    let values = [n, seed];
+    let told = output.form(text, b"fill %d %d\n", &values);
+    Desk { payload: size, joining, output: told }
 }
 
 // The count of a payload's telegrams, or the refusal.
@@ -106,16 +104,14 @@ fn counted(output: Output, text: &mut [u8; SPACE], payload: &[u8], l: usize) -> 
     if number != 0 {
         return remarks::refusal(output, text, number);
     }
-    let name = output.bytes(text, b"= count ");
-    let told = name.decimal(text, answer.telegrams());
-    told.line_end(text)
+    let values = [answer.telegrams()];
+    output.form(text, b"= count %d\n", &values)
 }
 
 fn count(output: Output, text: &mut [u8; SPACE], payload: &[u8], l: usize) -> Output {
-    let name = output.bytes(text, b"count ");
-    let asked = name.decimal(text, l);
-    let ended = asked.line_end(text);
-    counted(ended, text, payload, l)
+    let values = [l];
+    let asked = output.form(text, b"count %d\n", &values);
+    counted(asked, text, payload, l)
 }
 
 // One telegram into `room`, or the refusal.
@@ -131,22 +127,19 @@ fn telegram(output: Output, text: &mut [u8; SPACE], payload: &[u8], l: usize, ms
     told.line_end(text)
 }
 
-// L and a MsgID.
-fn heading(output: Output, text: &mut [u8; SPACE], l: usize, msg_id: u32) -> Output {
-    let sized = output.decimal(text, l);
-    let blank = sized.byte(text, b' ');
-    fields::msg_id(blank, text, msg_id)
+// The high half of a MsgID, and the low half.
+fn high(msg_id: u32) -> usize {
+    (msg_id / 65536) as usize
+}
+
+fn low(msg_id: u32) -> usize {
+    (msg_id % 65536) as usize
 }
 
 fn cut(output: Output, text: &mut [u8; SPACE], payload: &[u8], l: usize, msg_id: u32, number: usize, room: &mut [u8]) -> Output {
-    let name = output.bytes(text, b"cut ");
-    let headed = heading(name, text, l, msg_id);
-    let blank = headed.byte(text, b' ');
-    let numbered = blank.decimal(text, number);
-    let gap = numbered.byte(text, b' ');
-    let roomy = gap.decimal(text, room.len());
-    let ended = roomy.line_end(text);
-    telegram(ended, text, payload, l, msg_id, number, room)
+    let values = [l, high(msg_id), low(msg_id), number, room.len()];
+    let asked = output.form(text, b"cut %d %w%w %d %d\n", &values);
+    telegram(asked, text, payload, l, msg_id, number, room)
 }
 
 // This many telegrams of the payload.
@@ -162,10 +155,9 @@ fn each(output: Output, text: &mut [u8; SPACE], payload: &[u8], l: usize, msg_id
 
 // All telegrams of the payload, or the refusal.
 fn cut_all(output: Output, text: &mut [u8; SPACE], payload: &[u8], l: usize, msg_id: u32, room: &mut [u8]) -> Output {
-    let name = output.bytes(text, b"cutall ");
-    let headed = heading(name, text, l, msg_id);
-    let ended = headed.line_end(text);
-    let next = counted(ended, text, payload, l);
+    let values = [l, high(msg_id), low(msg_id)];
+    let asked = output.form(text, b"cutall %d %w%w\n", &values);
+    let next = counted(asked, text, payload, l);
     let answer = segmentation::count(l, payload);
     let telegrams = answer.telegrams();
     each(next, text, payload, l, msg_id, telegrams, room)
@@ -182,26 +174,21 @@ fn join_width(l: usize, room: usize, n: usize) -> usize {
 
 // The join command in its normal form.
 fn join_echo(output: Output, text: &mut [u8; SPACE], l: usize, room: usize, bytes: &[u8]) -> Output {
-    let name = output.bytes(text, b"join ");
-    let sized = name.decimal(text, l);
-    let blank = sized.byte(text, b' ');
-    let roomy = blank.decimal(text, room);
+    let values = [l, room];
+    let named = output.form(text, b"join %d %d", &values);
     if bytes.len() == 0 {
-        return roomy.line_end(text);
+        return named.line_end(text);
     }
-    let gap = roomy.byte(text, b' ');
+    let gap = named.byte(text, b' ');
     let told = fields::telegram(gap, text, bytes);
     told.line_end(text)
 }
 
 // A message that is complete.
 fn message(output: Output, text: &mut [u8; SPACE], msg_id: u32, bytes: &[u8]) -> Output {
-    let name = output.bytes(text, b"= message ");
-    let headed = fields::msg_id(name, text, msg_id);
-    let blank = headed.byte(text, b' ');
-    let sized = blank.decimal(text, bytes.len());
-    let ended = sized.line_end(text);
-    fields::message(ended, text, bytes)
+    let values = [high(msg_id), low(msg_id), bytes.len()];
+    let headed = output.form(text, b"= message %w%w %d\n", &values);
+    fields::message(headed, text, bytes)
 }
 
 // Offers a telegram with this join buffer.

@@ -5,7 +5,6 @@ use Rattle.ringbox.proofs.orders.pairs.Statement.{statement}
 use Rattle.ringbox.proofs.orders.pairs.Tie as tie
 use Rattle.ringbox.proofs.orders.pairs.Reads as reads
 use Rattle.ringbox.proofs.orders.pairs.Lts as lts
-use Rattle.console.proofs.output.Output.byte.Reads as byte-reads
 use Rattle.ringbox.proofs.orders.pair.Reads as pair-reads
 
 abbrev Inv-loop : tie.InvT-loop
@@ -22,9 +21,6 @@ sub-if1 c = search needs
 
 returns : tie.Need-returns Inv-loop μ-loop
 returns c = search needs
-
-byte-requires : tie.Need-byte-requires Inv-loop μ-loop
-byte-requires c κs = search needs
 
 shared-slice-read-pair : tie.Need-shared-slice-read-pair Inv-loop μ-loop
 shared-slice-read-pair c = search needs
@@ -59,7 +55,6 @@ pairs-spec =
     loop-holds
     sub-if1
     returns
-    byte-requires
     shared-slice-read-pair
     add-pair
     shared-slice-read-pair-2

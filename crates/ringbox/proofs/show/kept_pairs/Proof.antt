@@ -4,7 +4,6 @@ use Rattle.ringbox.proofs.show.kept_pairs.Statement.{statement}
 use Rattle.ringbox.proofs.show.kept_pairs.Tie as tie
 use Rattle.ringbox.proofs.show.kept_pairs.Reads as reads
 use Rattle.ringbox.proofs.show.kept_pairs.Lts as lts
-use Rattle.console.proofs.output.Output.byte.Reads as byte-reads
 use Rattle.node.proofs.pairs.Pairs.len.Reads as len-reads
 use Rattle.ringbox.proofs.orders.pair.Reads as pair-reads
 
@@ -19,9 +18,6 @@ len-requires c κs = search needs
 
 loop-holds : tie.Need-loop-holds Inv-loop μ-loop
 loop-holds c = search needs
-
-byte-requires : tie.Need-byte-requires Inv-loop μ-loop
-byte-requires c κs = search needs
 
 element-copy-out-pair : tie.Need-element-copy-out-pair Inv-loop μ-loop
 element-copy-out-pair c = search needs
@@ -52,7 +48,6 @@ kept-pairs-spec =
     μ-loop
     len-requires
     loop-holds
-    byte-requires
     element-copy-out-pair
     element-copy-out-pair-2
     pair-requires

@@ -4,9 +4,7 @@ use Rattle.ringbox.proofs.show.listing.Statement.{statement}
 use Rattle.ringbox.proofs.show.listing.Tie as tie
 use Rattle.ringbox.proofs.show.listing.Reads as reads
 use Rattle.ringbox.proofs.show.listing.Lts as lts
-use Rattle.console.proofs.output.Output.bytes.Reads as bytes-reads
-use Rattle.console.proofs.output.Output.decimal.Reads as decimal-reads
-use Rattle.console.proofs.output.Output.line_end.Reads as line-end-reads
+use Rattle.console.proofs.output.Output.form.Reads as form-reads
 use Rattle.ringbox.proofs.show.listed.Reads as listed-reads
 
 abbrev Inv-loop : tie.InvT-loop
@@ -15,17 +13,14 @@ Inv-loop text₀ listing next₀ i₀ text next i = Unit {0}
 abbrev μ-loop : tie.MeasureT-loop
 μ-loop text₀ listing next₀ i₀ text next i = 1008 - i
 
-slice-aggregate-bytes : tie.Need-slice-aggregate-bytes Inv-loop μ-loop
-slice-aggregate-bytes c = search needs
+slice-aggregate-form : tie.Need-slice-aggregate-form Inv-loop μ-loop
+slice-aggregate-form c = search needs
 
-bytes-requires : tie.Need-bytes-requires Inv-loop μ-loop
-bytes-requires c κs = search needs
+slice-aggregate-form-2 : tie.Need-slice-aggregate-form-2 Inv-loop μ-loop
+slice-aggregate-form-2 c = search needs
 
-decimal-requires : tie.Need-decimal-requires Inv-loop μ-loop
-decimal-requires c κs = search needs
-
-line-end-requires : tie.Need-line-end-requires Inv-loop μ-loop
-line-end-requires c κs = search needs
+form-requires : tie.Need-form-requires Inv-loop μ-loop
+form-requires c κs = search needs
 
 loop-holds : tie.Need-loop-holds Inv-loop μ-loop
 loop-holds c = search needs
@@ -69,10 +64,9 @@ listing-spec =
     (tie.spec
     Inv-loop
     μ-loop
-    slice-aggregate-bytes
-    bytes-requires
-    decimal-requires
-    line-end-requires
+    slice-aggregate-form
+    slice-aggregate-form-2
+    form-requires
     loop-holds
     returns
     element-copy-out-listed

@@ -72,6 +72,10 @@ owes-on {b} {c} {d} {at} {i} {j} {whole} {xs} {rest} part e h k =
       place = let f = length-append part rest in let g = ap length e in omega (arith, h .place, k .place);
     }
 
+-- the buffer stays as long as it is
+pub owes-length : {b c : List ℕ} {at i : ℕ} {whole rest : List ℕ} → Owes b at whole i c rest → length c ≡ length b
+owes-length {b} {c} {at} {i} {whole} {rest} k = sym (length-sets c i rest) ∙ ap length (k .buffer) ∙ length-sets b at whole
+
 pub owes-end : {b c : List ℕ} {at i : ℕ} {whole rest : List ℕ} → rest ≡ [] → Owes b at whole i c rest → Wrote b at whole i c
 owes-end {b} {c} {at} {i} {whole} {rest} e k =
     record { buffer = sym (ap (sets c i) e) ∙ k .buffer; place = let g = ap length e in omega (arith, k .place) }

@@ -5,3 +5,4 @@ pub mod Sums
 pub mod Buffers
 pub mod Bits
 pub mod Views
+pub mod Runs

@@ -1,10 +1,15 @@
 // Digits, and which bytes part words.
+ghost use mathlib.Core.Path.{_≡_};
+ghost use Prim.Native.Nat.{_≤_};
+ghost use Rattle.script.specs.Text.{isBlank, isDropped, hexValue, glyphOf};
 
 // Where a byte is no digit.
 pub const NO_DIGIT: u8 = 16;
 
 // A space or a tab.
-pub fn is_blank(byte: u8) -> bool {
+pub fn is_blank(byte: u8) -> bool
+    ensures { λ r. ⌜ r ≡ isBlank byte ⌝ }
+{
     if byte == b' ' {
         return true;
     }
@@ -12,7 +17,9 @@ pub fn is_blank(byte: u8) -> bool {
 }
 
 // A byte that is dropped at a line's end: a blank or a CR.
-pub fn is_dropped(byte: u8) -> bool {
+pub fn is_dropped(byte: u8) -> bool
+    ensures { λ r. ⌜ r ≡ isDropped byte ⌝ }
+{
     if byte == b'\r' {
         return true;
     }
@@ -20,7 +27,9 @@ pub fn is_dropped(byte: u8) -> bool {
 }
 
 // A hexadecimal digit's value in either case, or 16.
-pub fn hex_value(byte: u8) -> u8 {
+pub fn hex_value(byte: u8) -> u8
+    ensures { λ r. ⌜ (r ≡ hexValue byte) × (r ≤ 16) ⌝ }
+{
     if byte < b'0' {
         return NO_DIGIT;
     }
@@ -43,7 +52,9 @@ pub fn hex_value(byte: u8) -> u8 {
 }
 
 // The upper-case digit of a value's low four bits.
-pub fn glyph(value: u8) -> u8 {
+pub fn glyph(value: u8) -> u8
+    ensures { λ r. ⌜ r ≡ glyphOf value ⌝ }
+{
     let digit = value % 16;
     if digit < 10 {
         return b'0' + digit;

@@ -1,6 +1,7 @@
 // Numbers and bytes as a script writes them.
-ghost use Prim.Native.Nat.{_≤_};
-ghost use lib.ListN.{length};
+ghost use mathlib.Core.Path.{_≡_};
+ghost use Prim.Native.Nat.{_%_};
+ghost use Rattle.script.specs.Text.{allDigits, number, decimalOf, byteOf};
 use super::digits;
 
 // What a word of digits is: no number, above the limit, or a number.
@@ -10,14 +11,13 @@ pub enum DecimalWord {
     Value(usize),
 }
 
-// Every byte is a decimal digit, and there is one.
-fn all_decimal(word: &[u8]) -> bool {
-    if word.len() == 0 {
-        return false;
-    }
+// Every byte is a digit to this base.
+fn all_digits(word: &[u8], base: u8) -> bool
+    ensures { λ r. ⌜ r ≡ allDigits base (now (word .entry)) ⌝ }
+{
     let mut i = 0;
     while i < word.len() {
-        if 9 < digits::hex_value(word[i]) {
+        if base <= digits::hex_value(word[i]) {
             return false;
         }
         i += 1;
@@ -26,8 +26,13 @@ fn all_decimal(word: &[u8]) -> bool {
 }
 
 // A word as a decimal number of at most `limit`.
-pub fn decimal(word: &[u8], limit: u32) -> DecimalWord {
-    if !all_decimal(word) {
+pub fn decimal(word: &[u8], limit: u32) -> DecimalWord
+    ensures { λ r. ⌜ r ≡ decimalOf (now (word .entry)) limit ⌝ }
+{
+    if word.len() == 0 {
+        return DecimalWord::NoNumber;
+    }
+    if !all_digits(word, 10) {
         return DecimalWord::NoNumber;
     }
     let most = limit as usize;
@@ -44,29 +49,29 @@ pub fn decimal(word: &[u8], limit: u32) -> DecimalWord {
 }
 
 // Every byte is a hexadecimal digit.
-pub fn all_hex(word: &[u8]) -> bool {
-    let mut i = 0;
-    while i < word.len() {
-        if digits::hex_value(word[i]) == digits::NO_DIGIT {
-            return false;
-        }
-        i += 1;
-    }
-    true
+pub fn all_hex(word: &[u8]) -> bool
+    ensures { λ r. ⌜ r ≡ allDigits 16 (now (word .entry)) ⌝ }
+{
+    all_digits(word, 16)
 }
 
 // The last eight hexadecimal digits of a word as a number.
-pub fn hex(word: &[u8]) -> u32 {
-    let mut value: u32 = 0;
+pub fn hex(word: &[u8]) -> u32
+    ensures { λ r. ⌜ r ≡ number 16 (now (word .entry)) % 4294967296 ⌝ }
+{
+    let mut value: usize = 0;
     let mut i = 0;
     while i < word.len() {
-        value = value % 268435456 * 16 + (digits::hex_value(word[i]) % 16) as u32;
+        value = (value * 16 + digits::hex_value(word[i]) as usize) % 4294967296;
         i += 1;
     }
-    value
+    value as u32
 }
 
 // The byte of two hexadecimal digits.
-pub fn byte(high: u8, low: u8) -> u8 {
-    digits::hex_value(high) % 16 * 16 + digits::hex_value(low) % 16
+pub fn byte(high: u8, low: u8) -> u8
+    ensures { λ r. ⌜ r ≡ byteOf high low ⌝ }
+{
+    let value = digits::hex_value(high) as usize * 16 + digits::hex_value(low) as usize;
+    (value % 256) as u8
 }

@@ -1,11 +1,13 @@
 // Words of a line, parted by blanks.
-ghost use Prim.Native.Nat.{_≤_, _-_};
-ghost use lib.ListN.{length};
+ghost use mathlib.Core.Path.{_≡_};
+ghost use Prim.Native.Nat.{_+_, _≤_, _-_};
+ghost use lib.ListN.{length, drop};
+ghost use Rattle.script.specs.Text.{blanks, glyphs, sameWord, trimmedLength};
 use super::digits;
 
 // The place of the first byte from `from` on that is no blank, or the line's end.
 pub fn word_start(line: &[u8], from: usize) -> usize
-    ensures { λ r. ⌜ from ≤ r ⌝ }
+    ensures { λ r. ⌜ (r ≡ from + blanks (drop from (now (line .entry)))) × (from ≤ r) ⌝ }
 {
     let mut at = from;
     while at < line.len() {
@@ -19,7 +21,7 @@ pub fn word_start(line: &[u8], from: usize) -> usize
 
 // The place of the first blank from `from` on, or the line's end.
 pub fn word_end(line: &[u8], from: usize) -> usize
-    ensures { λ r. ⌜ (from ≤ r) × (r - from ≤ length (now (line .entry)) - from) ⌝ }
+    ensures { λ r. ⌜ (r ≡ from + glyphs (drop from (now (line .entry)))) × (from ≤ r) × (r - from ≤ length (now (line .entry)) - from) ⌝ }
 {
     let mut at = from;
     while at < line.len() {
@@ -32,7 +34,9 @@ pub fn word_end(line: &[u8], from: usize) -> usize
 }
 
 // The same bytes.
-pub fn same(word: &[u8], other: &[u8]) -> bool {
+pub fn same(word: &[u8], other: &[u8]) -> bool
+    ensures { λ r. ⌜ r ≡ sameWord (now (word .entry)) (now (other .entry)) ⌝ }
+{
     if word.len() != other.len() {
         return false;
     }
@@ -48,7 +52,7 @@ pub fn same(word: &[u8], other: &[u8]) -> bool {
 
 // A line's length without the blanks and CRs at its end.
 pub fn trimmed(line: &[u8]) -> usize
-    ensures { λ r. ⌜ r ≤ length (now (line .entry)) ⌝ }
+    ensures { λ r. ⌜ (r ≡ trimmedLength (now (line .entry))) × (r ≤ length (now (line .entry))) ⌝ }
 {
     let mut n = line.len();
     while 0 < n {

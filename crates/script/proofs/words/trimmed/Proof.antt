@@ -1,20 +1,26 @@
+-- What is left of the line, without the dropped bytes at its end, is the length asked for.
+use Prim.Native.Nat.{_-_, _≤_}
+use mathlib.Core.Path.{_≡_, sym, _∙_}
+use mathlib.Core.List.{reverse}
+use lib.ListN.{length, take}
+use lib.Seq.{take-length}
+use Rattle.laws.specs.Bools.{not-true, not-false}
+use Rattle.laws.specs.Runs.{leading, back-stops, back-on}
+use Rattle.script.specs.Text.{isDropped, trimmedLength}
 use borrow.Author.Needs.{needs}
-use Prim.Native.Nat.{_≤_}
-use lib.ListN.{length}
+use native.Mathlib.Omega.{arith}
 use Rattle.script.proofs.words.trimmed.Statement.{statement}
 use Rattle.script.proofs.words.trimmed.Tie as tie
-use Rattle.script.proofs.words.trimmed.Reads as reads
-use Rattle.script.proofs.words.trimmed.Lts as lts
-use Rattle.script.proofs.digits.is_dropped.Reads as is-dropped-reads
 
 abbrev Inv-loop : tie.InvT-loop
-Inv-loop line n₀ n = n ≤ length line
+Inv-loop line n₀ n = (n ≤ length line) × (n - leading isDropped (reverse (take n line)) ≡ trimmedLength line)
 
 abbrev μ-loop : tie.MeasureT-loop
 μ-loop line n₀ n = n
 
 loop-holds : tie.Need-loop-holds Inv-loop μ-loop
-loop-holds c = search needs
+unfolding trimmedLength
+loop-holds c = (omega arith, rw (take-length (c .before .args .line .now)))
 
 sub-is-dropped : tie.Need-sub-is-dropped Inv-loop μ-loop
 sub-is-dropped c = search needs
@@ -26,7 +32,11 @@ is-dropped-requires : tie.Need-is-dropped-requires Inv-loop μ-loop
 is-dropped-requires c κs = search needs
 
 returns : tie.Need-returns Inv-loop μ-loop
-returns c = search needs
+returns c =
+    let at-loop = c .before .before .before .before in
+    let line = at-loop .before .before .args .line .now in
+    let w = at-loop .loop .inv in
+    (back-stops isDropped line _ 0 (c .before .before .before .loop-test .taken) (w .0) (sym (c .before .is-dropped .ensures) ∙ not-true _ (c .if1 .taken)) (w .1), w .0)
 
 sub-n : tie.Need-sub-n Inv-loop μ-loop
 sub-n c = search needs
@@ -35,10 +45,16 @@ loop-less : tie.Need-loop-less Inv-loop μ-loop
 loop-less c = search needs
 
 loop-again : tie.Need-loop-again Inv-loop μ-loop
-loop-again c = search needs
+loop-again c =
+    let at-loop = c .before .before .before .before in
+    let line = at-loop .before .before .args .line .now in
+    let w = at-loop .loop .inv in
+    (omega arith, back-on isDropped line _ 0 (c .before .before .before .loop-test .taken) (w .0) (sym (c .before .is-dropped .ensures) ∙ not-false _ (c .if1 .left)) (w .1))
 
 returns-2 : tie.Need-returns-2 Inv-loop μ-loop
-returns-2 c = search needs
+returns-2 c =
+    let w = c .before .loop .inv in
+    (omega arith, omega arith)
 
 pub trimmed-spec : {M : Type 1} → statement M
 trimmed-spec =

@@ -1,20 +1,23 @@
+-- The place passed over so far, and the bytes from there on that are no blanks, make the place asked for.
+use Prim.Native.Nat.{_+_, _-_, _≤_}
+use mathlib.Core.Path.{_≡_, refl, sym, _∙_, ap}
+use lib.ListN.{length, drop}
+use mathlib.Core.Bool.{not}
+use Rattle.laws.specs.Runs.{run-stops, run-on, run-ends}
+use Rattle.script.specs.Text.{isGlyph, glyphs}
 use borrow.Author.Needs.{needs}
-use Prim.Native.Nat.{_-_, _≤_}
-use lib.ListN.{length}
+use native.Mathlib.Omega.{arith}
 use Rattle.script.proofs.words.word_end.Statement.{statement}
 use Rattle.script.proofs.words.word_end.Tie as tie
-use Rattle.script.proofs.words.word_end.Reads as reads
-use Rattle.script.proofs.words.word_end.Lts as lts
-use Rattle.script.proofs.digits.is_blank.Reads as is-blank-reads
 
 abbrev Inv-loop : tie.InvT-loop
-Inv-loop line from at₀ at = (from ≤ at) × (at - from ≤ length line - from)
+Inv-loop line from at₀ at = (from ≤ at) × (at - from ≤ length line - from) × (at + glyphs (drop at line) ≡ from + glyphs (drop from line))
 
 abbrev μ-loop : tie.MeasureT-loop
 μ-loop line from at₀ at = length line - at
 
 loop-holds : tie.Need-loop-holds Inv-loop μ-loop
-loop-holds c = search needs
+loop-holds c = (omega arith, omega arith, refl)
 
 shared-slice-read-is-blank : tie.Need-shared-slice-read-is-blank Inv-loop μ-loop
 shared-slice-read-is-blank c = search needs
@@ -23,7 +26,12 @@ is-blank-requires : tie.Need-is-blank-requires Inv-loop μ-loop
 is-blank-requires c κs = search needs
 
 returns : tie.Need-returns Inv-loop μ-loop
-returns c = search needs
+returns c =
+    let at-loop = c .before .before .before .before in
+    let line = at-loop .before .before .args .line .now in
+    let at = at-loop .loop .at in
+    let w = at-loop .loop .inv in
+    (run-stops isGlyph line at 0 (c .before .before .before .loop-test .taken) (ap not (sym (c .before .is-blank .ensures) ∙ c .if1 .taken)) (w .2), w .0, w .1)
 
 add-at : tie.Need-add-at Inv-loop μ-loop
 add-at c = search needs
@@ -32,10 +40,18 @@ loop-less : tie.Need-loop-less Inv-loop μ-loop
 loop-less c = search needs
 
 loop-again : tie.Need-loop-again Inv-loop μ-loop
-loop-again c = search needs
+loop-again c =
+    let at-loop = c .before .before .before .before in
+    let line = at-loop .before .before .args .line .now in
+    let at = at-loop .loop .at in
+    let w = at-loop .loop .inv in
+    (omega arith, omega arith, run-on isGlyph line at 0 (c .before .before .before .loop-test .taken) (ap not (sym (c .before .is-blank .ensures) ∙ c .if1 .left)) (w .2))
 
 returns-2 : tie.Need-returns-2 Inv-loop μ-loop
-returns-2 c = search needs
+returns-2 c =
+    let at-loop = c .before in
+    let w = at-loop .loop .inv in
+    (run-ends isGlyph (at-loop .before .before .args .line .now) (at-loop .loop .at) (c .loop-test .left) (w .2), w .0, w .1)
 
 pub word-end-spec : {M : Type 1} → statement M
 word-end-spec =

@@ -1,16 +1,14 @@
-use Prim.Native.Nat.{_+_}
+-- A wrong argument stays; a word is missing, is no number, does not fit, or is the number.
+use mathlib.Core.Path.{sym, _∙_}
+use Rattle.script.specs.Reading.{decimalAt}
+use Rattle.script.proofs.Taking.{behind-wrong, missing, decimal-read}
 use borrow.Author.Needs.{needs}
 use Rattle.script.proofs.arguments.Argument.decimal.Statement.{statement}
 use Rattle.script.proofs.arguments.Argument.decimal.Tie as tie
-use Rattle.script.proofs.arguments.Argument.decimal.Reads as reads
-use Rattle.script.proofs.arguments.Argument.decimal.Lts as lts
-use Rattle.script.proofs.arguments.Argument.wrong.Reads as wrong-reads
-use Rattle.script.proofs.numbers.decimal.Reads as decimal-reads
-use Rattle.script.proofs.words.word_end.Reads as word-end-reads
-use Rattle.script.proofs.words.word_start.Reads as word-start-reads
 
 returns : tie.Need-returns
-returns c = search needs
+unfolding decimalAt
+returns c = sym (behind-wrong _ _ (c .if1 .taken))
 
 word-start-requires : tie.Need-word-start-requires
 word-start-requires c κs = search needs
@@ -19,10 +17,14 @@ wrong-requires : tie.Need-wrong-requires
 wrong-requires c κs = search needs
 
 returns-2 : tie.Need-returns-2
-returns-2 c = search needs
-
-add-word-end : tie.Need-add-word-end
-add-word-end c = search needs
+unfolding decimalAt
+returns-2 c =
+    let at-word-start = c .before .before in
+    let at-if = at-word-start .before in
+    let start = at-if .before .before .before in
+    let line = start .args .line .now in
+    let self = start .args .self in
+    c .wrong .ensures ∙ sym (missing line self (at-if .if1 .left) (at-word-start .word-start .ensures .0) (c .before .if2 .taken) _)
 
 word-end-requires : tie.Need-word-end-requires
 word-end-requires c κs = search needs
@@ -55,13 +57,34 @@ enum-known-value : tie.Need-enum-known-value
 enum-known-value c = search needs
 
 returns-3 : tie.Need-returns-3
-returns-3 c = search needs
+returns-3 c =
+    let at-word-end = c .before .before .before .before .before in
+    let at-word-start = at-word-end .before .before in
+    let at-if = at-word-start .before in
+    let start = at-if .before .before .before in
+    let line = start .args .line .now in
+    let self = start .args .self in
+    c .wrong2 .ensures ∙ decimal-read line self (at-if .if1 .left) (at-word-start .word-start .ensures .0) (at-word-end .before .if2 .left) (at-word-end .word-end .ensures .0) _ (sym (c .before .enum-told .given .1) ∙ c .before .before .before .decimal .ensures)
 
 returns-4 : tie.Need-returns-4
-returns-4 c = search needs
+returns-4 c =
+    let at-word-end = c .before .before .before .before .before in
+    let at-word-start = at-word-end .before .before in
+    let at-if = at-word-start .before in
+    let start = at-if .before .before .before in
+    let line = start .args .line .now in
+    let self = start .args .self in
+    c .wrong3 .ensures ∙ decimal-read line self (at-if .if1 .left) (at-word-start .word-start .ensures .0) (at-word-end .before .if2 .left) (at-word-end .word-end .ensures .0) _ (sym (c .before .enum-told2 .given .1) ∙ c .before .before .before .decimal .ensures)
 
 returns-5 : tie.Need-returns-5
-returns-5 c = search needs
+returns-5 c =
+    let at-word-end = c .before .before .before .before .before in
+    let at-word-start = at-word-end .before .before in
+    let at-if = at-word-start .before in
+    let start = at-if .before .before .before in
+    let line = start .args .line .now in
+    let self = start .args .self in
+    decimal-read line self (at-if .if1 .left) (at-word-start .word-start .ensures .0) (at-word-end .before .if2 .left) (at-word-end .word-end .ensures .0) _ (sym (c .before .value .given .1) ∙ c .before .before .before .decimal .ensures)
 
 pub decimal-spec : {M : Type 1} → statement M
 decimal-spec =
@@ -71,7 +94,6 @@ decimal-spec =
     word-start-requires
     wrong-requires
     returns-2
-    add-word-end
     word-end-requires
     sub-decimal
     part-decimal-start

@@ -1,17 +1,15 @@
-use Prim.Native.Nat.{_+_}
+-- A wrong argument stays; a word is missing, is not hexadecimal, has another length, or is the number.
+use mathlib.Core.Path.{sym, _∙_}
+use Rattle.laws.specs.Bools.{not-true, not-false}
+use Rattle.script.specs.Reading.{hexAt}
+use Rattle.script.proofs.Taking.{behind-wrong, missing, hex-none, hex-wrong, hex-right}
 use borrow.Author.Needs.{needs}
 use Rattle.script.proofs.arguments.Argument.hex.Statement.{statement}
 use Rattle.script.proofs.arguments.Argument.hex.Tie as tie
-use Rattle.script.proofs.arguments.Argument.hex.Reads as reads
-use Rattle.script.proofs.arguments.Argument.hex.Lts as lts
-use Rattle.script.proofs.arguments.Argument.wrong.Reads as wrong-reads
-use Rattle.script.proofs.numbers.all_hex.Reads as all-hex-reads
-use Rattle.script.proofs.numbers.hex.Reads as hex-reads
-use Rattle.script.proofs.words.word_end.Reads as word-end-reads
-use Rattle.script.proofs.words.word_start.Reads as word-start-reads
 
 returns : tie.Need-returns
-returns c = search needs
+unfolding hexAt
+returns c = sym (behind-wrong _ _ (c .if1 .taken))
 
 word-start-requires : tie.Need-word-start-requires
 word-start-requires c κs = search needs
@@ -20,10 +18,14 @@ wrong-requires : tie.Need-wrong-requires
 wrong-requires c κs = search needs
 
 returns-2 : tie.Need-returns-2
-returns-2 c = search needs
-
-add-word-end : tie.Need-add-word-end
-add-word-end c = search needs
+unfolding hexAt
+returns-2 c =
+    let at-word-start = c .before .before in
+    let at-if = at-word-start .before in
+    let start = at-if .before .before .before in
+    let line = start .args .line .now in
+    let self = start .args .self in
+    c .wrong .ensures ∙ sym (missing line self (at-if .if1 .left) (at-word-start .word-start .ensures .0) (c .before .if2 .taken) _)
 
 word-end-requires : tie.Need-word-end-requires
 word-end-requires c κs = search needs
@@ -44,13 +46,27 @@ wrong-requires-2 : tie.Need-wrong-requires-2
 wrong-requires-2 c κs = search needs
 
 returns-3 : tie.Need-returns-3
-returns-3 c = search needs
+returns-3 c =
+    let at-word-end = c .before .before .before .before in
+    let at-word-start = at-word-end .before .before in
+    let at-if = at-word-start .before in
+    let start = at-if .before .before .before in
+    let line = start .args .line .now in
+    let self = start .args .self in
+    c .wrong2 .ensures ∙ hex-none line self (at-if .if1 .left) (at-word-start .word-start .ensures .0) (at-word-end .before .if2 .left) (at-word-end .word-end .ensures .0) _ (sym (c .before .before .all-hex .ensures) ∙ not-true _ (c .before .if3 .taken))
 
 wrong-requires-3 : tie.Need-wrong-requires-3
 wrong-requires-3 c κs = search needs
 
 returns-4 : tie.Need-returns-4
-returns-4 c = search needs
+returns-4 c =
+    let at-word-end = c .before .before .before .before .before in
+    let at-word-start = at-word-end .before .before in
+    let at-if = at-word-start .before in
+    let start = at-if .before .before .before in
+    let line = start .args .line .now in
+    let self = start .args .self in
+    c .wrong3 .ensures ∙ hex-wrong line self (at-if .if1 .left) (at-word-start .word-start .ensures .0) (at-word-end .before .if2 .left) (at-word-end .word-end .ensures .0) _ (sym (c .before .before .before .all-hex .ensures) ∙ not-false _ (c .before .before .if3 .left)) (c .before .if4 .taken)
 
 hex-requires : tie.Need-hex-requires
 hex-requires c κs = search needs
@@ -59,7 +75,14 @@ cast-value : tie.Need-cast-value
 cast-value c = search needs
 
 returns-5 : tie.Need-returns-5
-returns-5 c = search needs
+returns-5 c =
+    let at-word-end = c .before .before .before .before .before in
+    let at-word-start = at-word-end .before .before in
+    let at-if = at-word-start .before in
+    let start = at-if .before .before .before in
+    let line = start .args .line .now in
+    let self = start .args .self in
+    hex-right line self (at-if .if1 .left) (at-word-start .word-start .ensures .0) (at-word-end .before .if2 .left) (at-word-end .word-end .ensures .0) _ (sym (c .before .before .before .all-hex .ensures) ∙ not-false _ (c .before .before .if3 .left)) (c .before .if4 .left) (c .hex .ensures)
 
 pub hex-spec : {M : Type 1} → statement M
 hex-spec =
@@ -69,7 +92,6 @@ hex-spec =
     word-start-requires
     wrong-requires
     returns-2
-    add-word-end
     word-end-requires
     sub-word
     part-word-start

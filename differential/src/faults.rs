@@ -1,0 +1,188 @@
+//! Planted faults: boxes that misreport something are found, and the script that shows it is short.
+
+use lathepetal::FlatListing;
+use reference::player::{play_bytes, Bench, Ringbox, Telegrams};
+
+use crate::boxes::{Joined, ReferenceRing, ReferenceTelegrams, RingBox, Shown, TelegramBox};
+use crate::script::Found;
+use crate::{scenes, streams};
+
+const WAITS_SHORT_FOR_EVER: u8 = 0;
+const LOSES_THE_NUMBER_FE: u8 = 1;
+const FORGETS_A_LOOK_UP: u8 = 2;
+const WRITES_BEHIND_THE_ORDERS: u8 = 3;
+const CHANGES_BESIDE_7: u8 = 4;
+const LISTS_BEHIND_THE_COUNT: u8 = 5;
+const PASSES_THE_LAST_PASS: u8 = 6;
+
+/// The reference with one fault.
+#[derive(Clone, PartialEq)]
+struct Faulty<const FAULT: u8>(ReferenceRing);
+
+impl<const FAULT: u8> RingBox for Faulty<FAULT> {
+    fn fresh(l: usize) -> (u8, Self) {
+        let (number, ring) = ReferenceRing::fresh(l);
+        (number, Faulty(ring))
+    }
+
+    fn record(&mut self, bytes: &[u8], out: &mut [u8]) -> (u8, usize) {
+        let (number, length) = self.0.record(bytes, out);
+        let pass = self.0.show().pass;
+        match FAULT {
+            WAITS_SHORT_FOR_EVER if out[..length].ends_with(&[&[0x4D, 0x4F, 8][..], &pass.to_be_bytes()].concat()) => {
+                out[length - 5] = 7;
+            }
+            WRITES_BEHIND_THE_ORDERS if length > 40 && out.len() > length => out[length] ^= 1,
+            CHANGES_BESIDE_7 if number == 7 => self.0.set_pass(pass + 1),
+            PASSES_THE_LAST_PASS if number == 9 => return (0, 0),
+            _ => {}
+        }
+        (number, length)
+    }
+
+    fn show(&self) -> Shown {
+        let mut shown = self.0.show();
+        if FAULT == LOSES_THE_NUMBER_FE {
+            for row in &mut shown.rows {
+                row.numbers.iter_mut().filter(|number| **number == 0xFE).for_each(|number| *number = 0);
+            }
+        }
+        shown
+    }
+
+    fn listing(&self) -> FlatListing {
+        let mut listing = self.0.listing();
+        if FAULT == LISTS_BEHIND_THE_COUNT && listing.count == 3 {
+            listing.blocks[4] = 0x22;
+        }
+        listing
+    }
+
+    fn look_up(&self, block: u8, number: u8) -> (u8, u8, u16) {
+        match self.0.look_up(block, number) {
+            (0, 4, _) if FAULT == FORGETS_A_LOOK_UP => (17, 0, 0),
+            found => found,
+        }
+    }
+
+    fn set_pass(&mut self, pass: u32) {
+        self.0.set_pass(pass);
+    }
+}
+
+const DROPS_THE_LAST_BYTE: u8 = 0;
+const COUNTS_TO_127: u8 = 1;
+const KEEPS_A_MESSAGE_OPEN: u8 = 2;
+
+/// The reference with one fault.
+#[derive(Clone, PartialEq)]
+struct FaultyTelegrams<const FAULT: u8>(ReferenceTelegrams);
+
+impl<const FAULT: u8> TelegramBox for FaultyTelegrams<FAULT> {
+    fn fresh() -> Self {
+        FaultyTelegrams(ReferenceTelegrams::fresh())
+    }
+
+    fn count(l: usize, payload: &[u8]) -> (u8, usize) {
+        ReferenceTelegrams::count(l, payload)
+    }
+
+    fn cut(l: usize, msg_id: u32, payload: &[u8], number: usize, out: &mut [u8]) -> (u8, usize) {
+        let (refusal, length) = ReferenceTelegrams::cut(l, msg_id, payload, number, out);
+        if FAULT == COUNTS_TO_127 && length > 6 && number > 128 {
+            out[6] &= 0x7F;
+        }
+        (refusal, length)
+    }
+
+    fn join(&mut self, l: usize, buffer: &mut [u8], telegram: &[u8]) -> Joined {
+        let before = self.clone();
+        let mut joined = self.0.join(l, buffer, telegram);
+        match FAULT {
+            DROPS_THE_LAST_BYTE if joined.length > 30 => joined.length -= 1,
+            KEEPS_A_MESSAGE_OPEN if joined.number == 16 => *self = before,
+            _ => {}
+        }
+        joined
+    }
+
+    fn is_open(&self) -> bool {
+        self.0.is_open()
+    }
+}
+
+fn ring_fault<const FAULT: u8>() -> Found {
+    scenes::run::<Faulty<FAULT>>(1, 200_000, &mut scenes::Tally::default(), |_| ()).expect("the fault is found")
+}
+
+fn telegram_fault<const FAULT: u8>() -> Found {
+    let found = streams::run::<FaultyTelegrams<FAULT>>(1, 100_000, &mut streams::Tally::default(), |_| ());
+    found.expect("the fault is found")
+}
+
+/// The script is one that the player understands, and has so many lines at most that begin with `start`.
+fn is_short<B: Bench>(mut bench: B, found: &Found, start: &str, most: usize) {
+    println!("# {}\n{}", found.difference.what, found.script);
+    let text = String::from_utf8(play_bytes(&mut bench, found.script.as_bytes())).expect("a transcript is text");
+    assert!(!text.contains("not understood"), "{text}");
+    let lines = found.script.lines().filter(|line| line.starts_with(start)).count();
+    assert!(lines <= most, "{lines} lines, expected {most}");
+}
+
+#[test]
+fn a_long_silence() {
+    let found = ring_fault::<WAITS_SHORT_FOR_EVER>();
+    is_short(Ringbox::new(), &found, ">", 40);
+    assert!(found.difference.what.starts_with("byte of the order room"));
+}
+
+#[test]
+fn one_answer() {
+    is_short(Ringbox::new(), &ring_fault::<LOSES_THE_NUMBER_FE>(), ">", 2);
+}
+
+#[test]
+fn a_look_up() {
+    let found = ring_fault::<FORGETS_A_LOOK_UP>();
+    is_short(Ringbox::new(), &found, ">", 6);
+    assert!(found.script.contains("\nlookup "));
+}
+
+#[test]
+fn lent_room() {
+    is_short(Ringbox::new(), &ring_fault::<WRITES_BEHIND_THE_ORDERS>(), ">", 3);
+}
+
+#[test]
+fn a_refusal() {
+    is_short(Ringbox::new(), &ring_fault::<CHANGES_BESIDE_7>(), ">", 5);
+}
+
+#[test]
+fn a_listing() {
+    is_short(Ringbox::new(), &ring_fault::<LISTS_BEHIND_THE_COUNT>(), ">", 3);
+}
+
+#[test]
+fn the_last_pass() {
+    let found = ring_fault::<PASSES_THE_LAST_PASS>();
+    is_short(Ringbox::new(), &found, ">", 2);
+    assert!(found.script.contains("no script can show"));
+}
+
+#[test]
+fn a_message() {
+    is_short(Telegrams::new(), &telegram_fault::<DROPS_THE_LAST_BYTE>(), "join", 3);
+}
+
+#[test]
+fn a_counter() {
+    let found = telegram_fault::<COUNTS_TO_127>();
+    is_short(Telegrams::new(), &found, "cut", 1);
+    is_short(Telegrams::new(), &found, "fill", 1);
+}
+
+#[test]
+fn a_broken_message() {
+    is_short(Telegrams::new(), &telegram_fault::<KEEPS_A_MESSAGE_OPEN>(), "join", 2);
+}

@@ -1,0 +1,86 @@
+//! The differential test: the proved library and the reference take the same records and telegrams, and all that they give is compared.
+
+mod boxes;
+#[cfg(test)]
+mod faults;
+mod minimize;
+mod ring;
+mod scenes;
+mod script;
+mod streams;
+mod telegrams;
+
+use std::process::ExitCode;
+use std::time::{Instant, SystemTime, UNIX_EPOCH};
+
+use boxes::{ProvedRing, ProvedTelegrams};
+use script::Found;
+
+const USAGE: &str = "usage: differential [SEED] [RECORDS] [TELEGRAMS]";
+const RECORDS: usize = 1_000_000;
+const TELEGRAMS: usize = 200_000;
+
+fn main() -> ExitCode {
+    let words: Option<Vec<u64>> = std::env::args().skip(1).map(|word| word.parse().ok()).collect();
+    let (seed, records, telegrams) = match words.as_deref() {
+        Some([]) => (seed_from_the_clock(), RECORDS, TELEGRAMS),
+        Some(&[seed]) => (seed, RECORDS, TELEGRAMS),
+        Some(&[seed, records]) => (seed, records as usize, TELEGRAMS),
+        Some(&[seed, records, telegrams]) => (seed, records as usize, telegrams as usize),
+        _ => {
+            eprintln!("{USAGE}");
+            return ExitCode::from(2);
+        }
+    };
+    println!("seed {seed}");
+
+    let mut registry = scenes::Tally::default();
+    if let Some(found) = scenes::run::<ProvedRing>(seed, records, &mut registry, progress("records", records)) {
+        return different(seed, "ringbox", registry.records, found);
+    }
+    let mut transport = streams::Tally::default();
+    if let Some(found) = streams::run::<ProvedTelegrams>(seed, telegrams, &mut transport, progress("telegrams", telegrams)) {
+        return different(seed, "telegrams", transport.telegrams, found);
+    }
+    report(&registry, &transport);
+    println!("differential: seed {seed}: {records} records, {telegrams} telegrams, no difference");
+    ExitCode::SUCCESS
+}
+
+fn seed_from_the_clock() -> u64 {
+    SystemTime::now().duration_since(UNIX_EPOCH).map_or(0, |time| time.as_micros() as u64 % 1_000_000_000)
+}
+
+/// Says on standard error, every few seconds, how far the run is.
+fn progress(what: &'static str, of: usize) -> impl FnMut(usize) {
+    let mut said = Instant::now();
+    move |played| {
+        if said.elapsed().as_secs() >= 5 {
+            said = Instant::now();
+            eprintln!("{played} of {of} {what}");
+        }
+    }
+}
+
+/// Prints what differs and the script that shows it.
+fn different(seed: u64, program: &str, played: usize, found: Found) -> ExitCode {
+    println!("# {}", found.difference.what);
+    println!("# a script for {program}:");
+    print!("{}", found.script);
+    println!("# differential: seed {seed}: a difference after {played}");
+    ExitCode::FAILURE
+}
+
+/// What the run came across.
+fn report(registry: &scenes::Tally, transport: &streams::Tally) {
+    let names =
+        |names: &[&str], counts: &[usize]| -> String { names.iter().zip(counts).map(|(name, count)| format!(" {name} {count}")).collect() };
+    let kinds = ["ASK", "SET", "OK", "NOTOK", "NEW", "INVALID", "WAIT SHORT", "WAIT LONG"];
+    let statuses = ["WAITING", "SETTING", "LISTED", "SILENT", "IGNORED"];
+    eprintln!("{} sessions; at most {} pairs listed", registry.sessions, registry.listed);
+    eprintln!("records by number:{}", names(&["0", "1", "2", "3", "4", "5", "6", "7", "8", "9"], &registry.numbers));
+    eprintln!("orders:{}", names(&kinds, &registry.orders[1..]));
+    eprintln!("rows seen:{}", names(&statuses, &registry.rows));
+    eprintln!("telegram refusals:{}", names(&["10", "11", "12", "13", "14", "15", "16"], &transport.numbers[10..]));
+    eprintln!("{} messages joined", transport.messages);
+}

@@ -1,0 +1,305 @@
+//! Rings played through both boxes: each record is offered to both, and everything that comes back is compared.
+
+use crate::boxes::{ReferenceRing, RingBox, Shown};
+use crate::minimize::{minimize, Simpler};
+use crate::script::{differ, differ_at, must, must_at, Difference, Found};
+
+/// The most order room that is lent.
+pub const MAX_ROOM: usize = 8192;
+const GUARD: usize = 64;
+/// Lent room begins at this many places in turn, so that it has every alignment.
+const STARTS: usize = 16;
+const AREA: usize = STARTS + MAX_ROOM + 2 * GUARD;
+
+/// One step of a session.
+#[derive(Clone)]
+pub enum Step {
+    /// A record with `room` bytes of order room, filled with the pattern from place `fill` on. Kinds 4 to 6 carry a pass that is
+    /// `ahead` of the current one, so that a session keeps its sense when steps are dropped.
+    Record { bytes: Vec<u8>, ahead: u32, room: usize, fill: usize },
+    /// The pass is set in both pictures.
+    Pass(u32),
+}
+
+impl Step {
+    /// A record that carries the pass given where it has one.
+    pub fn record(bytes: &[u8], current_pass: u32, room: usize, fill: usize) -> Step {
+        let ahead = match carried_pass(bytes) {
+            Some(pass) => pass.wrapping_sub(current_pass),
+            None => 0,
+        };
+        Step::Record { bytes: bytes.to_vec(), ahead, room, fill: fill % AREA }
+    }
+
+    /// The step in a ring without the unit at a position, where it is still one.
+    fn without_unit(&self, position: u8) -> Option<Step> {
+        let Step::Record { bytes, ahead, room, fill } = self else { return Some(self.clone()) };
+        let mut bytes = bytes.clone();
+        match bytes[..] {
+            [_, _, 4 | 5, _, _, _, _, x, ..] if x == position => return None,
+            [_, _, 1 | 2 | 4 | 5, _, _, _, _, x, ..] if x > position => bytes[7] = x - 1,
+            _ => {}
+        }
+        Some(Step::Record { bytes, ahead: *ahead, room: *room, fill: *fill })
+    }
+}
+
+impl Simpler for Step {
+    fn simpler(&self) -> Vec<Step> {
+        let Step::Record { bytes, ahead, room, fill } = self else { return Vec::new() };
+        let with = |bytes: Vec<u8>, room: usize| Step::Record { bytes, ahead: *ahead, room, fill: *fill };
+        let mut steps = Vec::new();
+        if *room != MAX_ROOM {
+            steps.push(with(bytes.clone(), MAX_ROOM));
+        }
+        if bytes.len() == 8 && bytes[2] < 3 && bytes[7] > 1 {
+            for nodes in [bytes[7] / 2, bytes[7] - 1] {
+                steps.push(with([&bytes[..7], &[nodes]].concat(), *room));
+            }
+        }
+        if bytes.len() > 12 && bytes[2] == 4 && bytes.len() == 11 + 2 * bytes[10] as usize {
+            for at in (11..bytes.len()).step_by(2) {
+                let mut fewer = bytes.clone();
+                fewer.drain(at..at + 2);
+                fewer[10] -= 1;
+                steps.push(with(fewer, *room));
+            }
+        }
+        steps
+    }
+
+    /// Sessions without one of the units: the greatest N is less by one.
+    fn rewritten(steps: &[Step]) -> Vec<Vec<Step>> {
+        let nodes = |step: &Step| match step {
+            Step::Record { bytes, .. } if bytes.len() == 8 && bytes[2] < 3 => bytes[7].min(64),
+            _ => 0,
+        };
+        let most = steps.iter().map(nodes).max().unwrap_or(0);
+        (1..most).map(|position| steps.iter().filter_map(|step| step.without_unit(position)).collect()).collect()
+    }
+}
+
+/// The pass of a record of kinds 4 to 6.
+fn carried_pass(bytes: &[u8]) -> Option<u32> {
+    match *bytes {
+        [0x4D, 0x45, 4..=6, p0, p1, p2, p3, ..] => Some(u32::from_be_bytes([p0, p1, p2, p3])),
+        _ => None,
+    }
+}
+
+/// One ring in both boxes. The pattern is what lent room is filled with.
+pub struct Player<P> {
+    proved: P,
+    reference: ReferenceRing,
+    shown: Shown,
+    pattern: Vec<u8>,
+    rooms: [Vec<u8>; 2],
+}
+
+impl<P: RingBox> Player<P> {
+    /// Fresh pictures for L; a bad L leaves both with one for 12.
+    pub fn fresh(l: usize, pattern: Vec<u8>) -> Result<Player<P>, Difference> {
+        assert_eq!(pattern.len(), 2 * AREA);
+        let (proved_number, proved) = P::fresh(l);
+        let (number, reference) = ReferenceRing::fresh(l);
+        differ("number of fresh", proved_number, number)?;
+        let shown = reference.show();
+        let player = Player { proved, reference, shown, pattern, rooms: [vec![0; AREA], vec![0; AREA]] };
+        player.compare_shown()?;
+        Ok(player)
+    }
+
+    /// A pattern made from random words.
+    pub fn pattern(mut word: impl FnMut() -> u64) -> Vec<u8> {
+        (0..2 * AREA / 8).flat_map(|_| word().to_le_bytes()).collect()
+    }
+
+    /// What the reference's picture says.
+    pub fn shown(&self) -> &Shown {
+        &self.shown
+    }
+
+    /// Plays one step in both boxes and compares; gives the number and the orders.
+    pub fn play(&mut self, step: &Step) -> Result<(u8, &[u8]), Difference> {
+        match step {
+            Step::Pass(pass) => {
+                self.proved.set_pass(*pass);
+                self.reference.set_pass(*pass);
+                self.shown.pass = *pass;
+                self.compare_shown()?;
+                Ok((0, &[]))
+            }
+            Step::Record { room, fill, .. } => {
+                let start = fill % STARTS;
+                let bytes = [&[0; STARTS][..start], &self.bytes_of(step)].concat();
+                self.offer(&bytes[start..], *room, *fill)
+            }
+        }
+    }
+
+    /// The bytes of a record in the current pass.
+    fn bytes_of(&self, step: &Step) -> Vec<u8> {
+        let Step::Record { bytes, ahead, .. } = step else { return Vec::new() };
+        let mut bytes = bytes.clone();
+        if carried_pass(&bytes).is_some() {
+            bytes[3..7].copy_from_slice(&self.shown.pass.wrapping_add(*ahead).to_be_bytes());
+        }
+        bytes
+    }
+
+    fn offer(&mut self, bytes: &[u8], room: usize, fill: usize) -> Result<(u8, &[u8]), Difference> {
+        let Player { proved, reference, pattern, rooms: [proved_room, reference_room], .. } = self;
+        let start = GUARD + fill % STARTS;
+        let end = start + room;
+        let area = end + GUARD;
+        let pattern = &pattern[fill..fill + area];
+        proved_room[..area].copy_from_slice(pattern);
+        reference_room[..area].copy_from_slice(pattern);
+        let before = (proved.clone(), reference.clone());
+
+        let (proved_number, proved_length) = proved.record(bytes, &mut proved_room[start..end]);
+        let (number, length) = reference.record(bytes, &mut reference_room[start..end]);
+
+        differ("number of the record", proved_number, number)?;
+        differ("length of the orders", proved_length, length)?;
+        differ_at("byte of the order room", &proved_room[start..end], &reference_room[start..end])?;
+        let written = start + length;
+        must_at("proved: byte in front of the room", &proved_room[..start], &pattern[..start])?;
+        must_at("proved: byte behind the orders", &proved_room[written..area], &pattern[written..])?;
+        must_at("reference: byte behind the orders", &reference_room[written..area], &pattern[written..])?;
+        if number != 0 {
+            must("proved: picture unchanged by a refusal", *proved == before.0, true)?;
+            must("reference: picture unchanged by a refusal", *reference == before.1, true)?;
+            must("proved: length beside a refusal", proved_length, 0)?;
+        }
+        self.shown = self.reference.show();
+        self.compare_shown()?;
+        Ok((number, &self.rooms[1][start..written]))
+    }
+
+    fn compare_shown(&self) -> Result<(), Difference> {
+        let (proved, reference) = (self.proved.show(), &self.shown);
+        if proved == *reference {
+            return Ok(());
+        }
+        differ("state", proved.state, reference.state)?;
+        differ("pass", proved.pass, reference.pass)?;
+        differ("L", proved.size, reference.size)?;
+        differ("N", proved.nodes, reference.nodes)?;
+        differ("delay", proved.delay, reference.delay)?;
+        for ((position, row), (_, other)) in proved.rows().zip(reference.rows()) {
+            differ(&format!("row of position {position}"), row, other)?;
+        }
+        differ("open questions", proved.open, reference.open)
+    }
+
+    /// Compares the whole listing; gives its pairs.
+    pub fn compare_listing(&self) -> Result<Vec<(u8, u8)>, Difference> {
+        let (proved, reference) = (self.proved.listing(), self.reference.listing());
+        if proved != reference {
+            differ("count of the listing", proved.count, reference.count)?;
+            differ_at("position of the listing at place", &proved.positions, &reference.positions)?;
+            differ_at("address of the listing at place", &proved.addresses, &reference.addresses)?;
+            differ_at("block of the listing at place", &proved.blocks, &reference.blocks)?;
+            differ_at("number of the listing at place", &proved.numbers, &reference.numbers)?;
+        }
+        let count = reference.count;
+        Ok(reference.blocks[..count].iter().copied().zip(reference.numbers[..count].iter().copied()).collect())
+    }
+
+    pub fn compare_look_up(&self, block: u8, number: u8) -> Result<(), Difference> {
+        let (proved, reference) = (self.proved.look_up(block, number), self.reference.look_up(block, number));
+        if proved == reference {
+            return Ok(());
+        }
+        differ(&format!("lookup {block:02X} {number:02X} (number, position, address)"), proved, reference)
+            .map_err(|difference| difference.shown_by(format!("lookup {block:02X} {number:02X}")))
+    }
+
+    /// Compares the listing, the look-up of each listed pair, of its neighbours and of pairs at the edges.
+    pub fn compare_closely(&self) -> Result<(), Difference> {
+        let pairs = self.compare_listing()?;
+        for &(block, number) in &pairs {
+            self.compare_look_up(block, number)?;
+            self.compare_look_up(block, number.wrapping_add(1))?;
+            self.compare_look_up(block.wrapping_add(1), number)?;
+        }
+        for (block, number) in [(0, 0), (0, 1), (1, 1), (2, 1), (0x22, 0), (0x22, 0xFF), (0xFE, 0xFE), (0xFF, 0xFF)] {
+            self.compare_look_up(block, number)?;
+        }
+        Ok(())
+    }
+}
+
+/// A session as far as it is played.
+pub struct Session {
+    pub l: usize,
+    pub pattern: Vec<u8>,
+    pub steps: Vec<Step>,
+}
+
+impl Session {
+    /// Plays steps anew and compares closely after each: the difference that shows, if any.
+    fn replay<P: RingBox>(&self, steps: &[Step]) -> Option<Difference> {
+        let run = || {
+            let mut player = Player::<P>::fresh(self.l, self.pattern.clone())?;
+            player.compare_closely()?;
+            for step in steps {
+                player.play(step)?;
+                player.compare_closely()?;
+            }
+            Ok(())
+        };
+        run().err()
+    }
+
+    /// The shortest script that shows a difference, as `found` in the run.
+    pub fn explain<P: RingBox>(&self, found: Difference) -> Found {
+        let differs = |steps: &[Step]| self.replay::<P>(steps).is_some();
+        let steps = match differs(&self.steps) {
+            true => minimize(self.steps.clone(), differs),
+            false => self.steps.clone(),
+        };
+        let difference = self.replay::<P>(&steps).unwrap_or(found);
+        Found { script: self.script::<P>(&steps, &difference), difference }
+    }
+
+    /// Steps as a bench script for `ringbox`.
+    fn script<P: RingBox>(&self, steps: &[Step], difference: &Difference) -> String {
+        let mut text = format!("fresh {}\n", self.l);
+        let mut player = Player::<P>::fresh(self.l, self.pattern.clone()).ok();
+        let mut lent = MAX_ROOM;
+        for step in steps {
+            match step {
+                Step::Pass(pass) => text += &format!("# here the pass is set to {pass}, which no script can show\n"),
+                Step::Record { bytes, room, .. } => {
+                    if *room != lent {
+                        lent = *room;
+                        text += &format!("room {room}\n");
+                    }
+                    let bytes = player.as_ref().map_or(bytes.clone(), |player| player.bytes_of(step));
+                    text += &format!("> {}\n", hex_of_record(&bytes));
+                }
+            }
+            player = player.and_then(|mut player| player.play(step).is_ok().then_some(player));
+        }
+        text += "state\nrows\nlisting\n";
+        if let Some(line) = &difference.line {
+            text += &format!("{line}\n");
+        }
+        text
+    }
+}
+
+/// The normal form of a record.
+fn hex_of_record(bytes: &[u8]) -> String {
+    let mut text = String::new();
+    for (index, byte) in bytes.iter().enumerate() {
+        let pairs = bytes.get(2) == Some(&4) && index >= 10 && (index == 10 || index % 2 == 1);
+        if matches!(index, 2 | 3 | 7 | 8) || pairs {
+            text.push(' ');
+        }
+        text += &format!("{byte:02X}");
+    }
+    text
+}

@@ -61,21 +61,40 @@ impl Input {
             let filled = input.filled(chunk);
             let at = filled.from;
             if filled.to <= at {
-                return Line { present: 0 < seen, length, input: filled };
+                return Line {
+                    present: 0 < seen,
+                    length,
+                    input: filled,
+                };
             }
             if CHUNK <= at {
-                return Line { present: 0 < seen, length, input: filled };
+                return Line {
+                    present: 0 < seen,
+                    length,
+                    input: filled,
+                };
             }
             let byte = chunk[at];
-            input = Input { from: at + 1, to: filled.to };
+            input = Input {
+                from: at + 1,
+                to: filled.to,
+            };
             if byte == LF {
-                return Line { present: true, length, input };
+                return Line {
+                    present: true,
+                    length,
+                    input,
+                };
             }
             seen = store(line, seen, byte);
             if !digits::is_dropped(byte) {
                 length = seen;
             }
         }
-        Line { present: false, length, input }
+        Line {
+            present: false,
+            length,
+            input,
+        }
     }
 }

@@ -29,7 +29,10 @@ fn write_first(text: &[u8], n: usize) -> bool {
 impl Output {
     // Nothing waits.
     pub fn new() -> Self {
-        Output { waiting: 0, closed: false }
+        Output {
+            waiting: 0,
+            closed: false,
+        }
     }
 
     // With nothing waiting: written, unless a write failed before.
@@ -38,9 +41,15 @@ impl Output {
     {
         let n = self.waiting;
         if self.closed {
-            return Output { waiting: 0, closed: true };
+            return Output {
+                waiting: 0,
+                closed: true,
+            };
         }
-        Output { waiting: 0, closed: !write_first(text, n) }
+        Output {
+            waiting: 0,
+            closed: !write_first(text, n),
+        }
     }
 
     // One byte more.
@@ -48,11 +57,17 @@ impl Output {
         let at = self.waiting;
         if at < SPACE {
             text[at] = byte;
-            return Output { waiting: at + 1, closed: self.closed };
+            return Output {
+                waiting: at + 1,
+                closed: self.closed,
+            };
         }
         let next = self.drained(text);
         text[0] = byte;
-        Output { waiting: 1, closed: next.closed }
+        Output {
+            waiting: 1,
+            closed: next.closed,
+        }
     }
 
     // Bytes as they are.

@@ -46,10 +46,18 @@ fn fresh(bench: Bench, text: &mut [u8; SPACE], l: usize) -> Bench
     let room = bench.room;
     if number != 0 {
         let refused = remarks::refusal(asked, text, number);
-        return Bench { picture, room, output: refused };
+        return Bench {
+            picture,
+            room,
+            output: refused,
+        };
     }
     let told = asked.form(text, b"= fresh %d\n", &values);
-    Bench { picture, room, output: told }
+    Bench {
+        picture,
+        room,
+        output: told,
+    }
 }
 
 // The order room lent from now on.
@@ -61,7 +69,11 @@ fn room(bench: Bench, text: &mut [u8; SPACE], n: usize) -> Bench
     let values = [n];
     let asked = output.form(text, b"room %d\n", &values);
     let picture = bench.picture;
-    Bench { picture, room: n, output: asked }
+    Bench {
+        picture,
+        room: n,
+        output: asked,
+    }
 }
 
 // The smaller of two numbers.
@@ -100,12 +112,20 @@ fn offer(bench: Bench, text: &mut [u8; SPACE], record: &[u8], orders: &mut [u8])
     let number = answer.number();
     if number != 0 {
         let refused = remarks::refusal(told, text, number);
-        return Bench { picture: next, room: bench.room, output: refused };
+        return Bench {
+            picture: next,
+            room: bench.room,
+            output: refused,
+        };
     }
     let taken = told.line(text, b"= taken");
     let length = smaller(answer.length(), room);
     let written = orders::lines(taken, text, &orders[0..length]);
-    Bench { picture: next, room: bench.room, output: written }
+    Bench {
+        picture: next,
+        room: bench.room,
+        output: written,
+    }
 }
 
 // A line that is no command.
@@ -115,7 +135,11 @@ fn not_understood(bench: Bench, text: &mut [u8; SPACE], line: &[u8], reason: u8)
 {
     let output = remarks::not_understood(bench.output, text, line, reason);
     let picture = bench.picture;
-    Bench { picture, room: bench.room, output }
+    Bench {
+        picture,
+        room: bench.room,
+        output,
+    }
 }
 
 // A look-up in its normal form.
@@ -135,26 +159,48 @@ fn shown(bench: Bench, text: &mut [u8; SPACE], command: Command) -> Bench
     match command {
         Command::State => {
             let name = output.line(text, b"state");
-            Bench { picture, room, output: show::state(name, text, picture) }
+            Bench {
+                picture,
+                room,
+                output: show::state(name, text, picture),
+            }
         }
         Command::Listing => {
             let name = output.line(text, b"listing");
-            Bench { picture, room, output: show::listing(name, text, picture.listing()) }
+            Bench {
+                picture,
+                room,
+                output: show::listing(name, text, picture.listing()),
+            }
         }
         Command::Rows => {
             let name = output.line(text, b"rows");
-            Bench { picture, room, output: show::rows(name, text, picture) }
+            Bench {
+                picture,
+                room,
+                output: show::rows(name, text, picture),
+            }
         }
         Command::LookUp { block, number } => {
             let asked = look_up_echo(output, text, block, number);
-            Bench { picture, room, output: show::found(asked, text, picture.look_up(block, number)) }
+            Bench {
+                picture,
+                room,
+                output: show::found(asked, text, picture.look_up(block, number)),
+            }
         }
         _ => bench,
     }
 }
 
 // A command line.
-fn obey(bench: Bench, text: &mut [u8; SPACE], line: &[u8], record: &mut [u8], orders: &mut [u8]) -> Bench
+fn obey(
+    bench: Bench,
+    text: &mut [u8; SPACE],
+    line: &[u8],
+    record: &mut [u8],
+    orders: &mut [u8],
+) -> Bench
     requires { ⌜ Reached (viewOf (bench .picture)) ⌝ }
     ensures { λ r. ⌜ Reached (viewOf (r .picture)) ⌝ }
 {
@@ -175,7 +221,13 @@ fn obey(bench: Bench, text: &mut [u8; SPACE], line: &[u8], record: &mut [u8], or
 }
 
 // A line of any kind.
-fn answer(bench: Bench, text: &mut [u8; SPACE], line: &[u8], record: &mut [u8], orders: &mut [u8]) -> Bench
+fn answer(
+    bench: Bench,
+    text: &mut [u8; SPACE],
+    line: &[u8],
+    record: &mut [u8],
+    orders: &mut [u8],
+) -> Bench
     requires { ⌜ Reached (viewOf (bench .picture)) ⌝ }
     ensures { λ r. ⌜ Reached (viewOf (r .picture)) ⌝ }
 {
@@ -184,7 +236,11 @@ fn answer(bench: Bench, text: &mut [u8; SPACE], line: &[u8], record: &mut [u8], 
         LineKind::Remark => {
             let output = bench.output;
             let picture = bench.picture;
-            Bench { picture, room: bench.room, output: output.line(text, line) }
+            Bench {
+                picture,
+                room: bench.room,
+                output: output.line(text, line),
+            }
         }
         LineKind::EarlierAnswer => bench,
         LineKind::Offer => obey(bench, text, line, record, orders),
@@ -192,7 +248,14 @@ fn answer(bench: Bench, text: &mut [u8; SPACE], line: &[u8], record: &mut [u8], 
 }
 
 // A line as it was read, of up to `length` bytes, or a too long one.
-fn if_fits(bench: Bench, text: &mut [u8; SPACE], line: &[u8], length: usize, record: &mut [u8], orders: &mut [u8]) -> Bench
+fn if_fits(
+    bench: Bench,
+    text: &mut [u8; SPACE],
+    line: &[u8],
+    length: usize,
+    record: &mut [u8],
+    orders: &mut [u8],
+) -> Bench
     requires { ⌜ Reached (viewOf (bench .picture)) ⌝ }
     ensures { λ r. ⌜ Reached (viewOf (r .picture)) ⌝ }
 {
@@ -203,14 +266,25 @@ fn if_fits(bench: Bench, text: &mut [u8; SPACE], line: &[u8], length: usize, rec
 }
 
 // A line as it was read, and nothing left waiting to be written.
-fn turn(bench: Bench, text: &mut [u8; SPACE], line: &[u8; MAX_LINE], length: usize, record: &mut [u8; MAX_RECORD], orders: &mut [u8; FIRST_ROOM]) -> Bench
+fn turn(
+    bench: Bench,
+    text: &mut [u8; SPACE],
+    line: &[u8; MAX_LINE],
+    length: usize,
+    record: &mut [u8; MAX_RECORD],
+    orders: &mut [u8; FIRST_ROOM],
+) -> Bench
     requires { ⌜ Reached (viewOf (bench .picture)) ⌝ }
     ensures { λ r. ⌜ Reached (viewOf (r .picture)) ⌝ }
 {
     let next = if_fits(bench, text, line, length, record, orders);
     let output = next.output;
     let picture = next.picture;
-    Bench { picture, room: next.room, output: output.drained(text) }
+    Bench {
+        picture,
+        room: next.room,
+        output: output.drained(text),
+    }
 }
 
 // The script, line by line, up to its end or to a failed write.
@@ -222,7 +296,11 @@ fn play() {
     let mut orders = [0u8; FIRST_ROOM];
     let made = RegistryImage::fresh(FIRST_SIZE);
     let picture = made.picture;
-    let mut bench = Bench { picture, room: FIRST_ROOM, output: Output::new() };
+    let mut bench = Bench {
+        picture,
+        room: FIRST_ROOM,
+        output: Output::new(),
+    };
     let mut input = Input::new();
     // A loop has to end; no script is as long as this.
     let mut turns = u64::MAX;
@@ -233,7 +311,14 @@ fn play() {
             return;
         }
         input = read.input;
-        bench = turn(bench, &mut text, &line, read.length, &mut record, &mut orders);
+        bench = turn(
+            bench,
+            &mut text,
+            &line,
+            read.length,
+            &mut record,
+            &mut orders,
+        );
         let output = bench.output;
         if output.closed {
             return;

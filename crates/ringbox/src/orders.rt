@@ -98,8 +98,20 @@ fn set(output: Output, text: &mut [u8; SPACE], bytes: &[u8]) -> Output {
         return output;
     }
     let block = wide(bytes[10]);
-    let values = [wide(bytes[7]), wide(bytes[8]), wide(bytes[9]), block, wide(bytes[11]), block, wide(bytes[12])];
-    output.form(text, b"SET position %d (%b%b): %b.%b becomes %b.%b", &values)
+    let values = [
+        wide(bytes[7]),
+        wide(bytes[8]),
+        wide(bytes[9]),
+        block,
+        wide(bytes[11]),
+        block,
+        wide(bytes[12]),
+    ];
+    output.form(
+        text,
+        b"SET position %d (%b%b): %b.%b becomes %b.%b",
+        &values,
+    )
 }
 
 // An order in words.

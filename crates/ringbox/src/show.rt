@@ -29,7 +29,11 @@ fn state_name(output: Output, text: &mut [u8; SPACE], state: u8) -> Output {
 pub fn state(output: Output, text: &mut [u8; SPACE], picture: RegistryImage) -> Output {
     let state = picture.current_state();
     let named = state_name(output, text, state.0);
-    let values = [picture.current_pass() as usize, picture.nodes(), picture.open_questions()];
+    let values = [
+        picture.current_pass() as usize,
+        picture.nodes(),
+        picture.open_questions(),
+    ];
     let told = named.form(text, b" pass %d nodes %d open %d", &values);
     if picture.delay_runs() {
         return told.line(text, b" delay yes");
@@ -38,8 +42,20 @@ pub fn state(output: Output, text: &mut [u8; SPACE], picture: RegistryImage) -> 
 }
 
 // One entry of a listing.
-fn listed(output: Output, text: &mut [u8; SPACE], position: u8, address: u16, block: u8, number: u8) -> Output {
-    let values = [position as usize, address as usize, block as usize, number as usize];
+fn listed(
+    output: Output,
+    text: &mut [u8; SPACE],
+    position: u8,
+    address: u16,
+    block: u8,
+    number: u8,
+) -> Output {
+    let values = [
+        position as usize,
+        address as usize,
+        block as usize,
+        number as usize,
+    ];
     output.form(text, b"= %d %w %b %b\n", &values)
 }
 

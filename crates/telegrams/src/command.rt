@@ -19,12 +19,27 @@ const MSG_ID_DIGITS: usize = 8;
 pub enum Command {
     NotUnderstood(u8),
     Payload(usize),
-    Fill { n: usize, seed: usize },
+    Fill {
+        n: usize,
+        seed: usize,
+    },
     Count(usize),
-    Cut { l: usize, msg_id: u32, number: usize, room: usize },
-    CutAll { l: usize, msg_id: u32 },
+    Cut {
+        l: usize,
+        msg_id: u32,
+        number: usize,
+        room: usize,
+    },
+    CutAll {
+        l: usize,
+        msg_id: u32,
+    },
     Rejoin,
-    Join { l: usize, room: usize, n: usize },
+    Join {
+        l: usize,
+        room: usize,
+        n: usize,
+    },
 }
 
 fn payload(line: &[u8], at: usize, bytes: &mut [u8]) -> Command {
@@ -42,7 +57,10 @@ fn fill(line: &[u8], at: usize) -> Command {
     if end.reason != UNDERSTOOD {
         return Command::NotUnderstood(end.reason);
     }
-    Command::Fill { n: n.value, seed: seed.value }
+    Command::Fill {
+        n: n.value,
+        seed: seed.value,
+    }
 }
 
 fn count(line: &[u8], at: usize) -> Command {
@@ -99,7 +117,11 @@ fn join(line: &[u8], at: usize, bytes: &mut [u8]) -> Command {
     if read.reason != UNDERSTOOD {
         return Command::NotUnderstood(read.reason);
     }
-    Command::Join { l: l.value, room: room.value, n: read.value }
+    Command::Join {
+        l: l.value,
+        room: room.value,
+        n: read.value,
+    }
 }
 
 // The command of a line, and the bytes that it names in `bytes`.

@@ -42,7 +42,11 @@ fn smaller(a: usize, b: usize) -> usize
 // The same desk with more written.
 fn with_output(desk: Desk, output: Output) -> Desk {
     let joining = desk.joining;
-    Desk { payload: desk.payload, joining, output }
+    Desk {
+        payload: desk.payload,
+        joining,
+        output,
+    }
 }
 
 // The first n of these bytes.
@@ -71,7 +75,11 @@ fn set_payload(desk: Desk, text: &mut [u8; SPACE], bytes: &[u8], payload: &mut [
         let blank = named.byte(text, b' ');
         named = blank.hex_bytes(text, bytes);
     }
-    Desk { payload: size, joining, output: named.line_end(text) }
+    Desk {
+        payload: size,
+        joining,
+        output: named.line_end(text),
+    }
 }
 
 // Bytes of a pattern into the payload.
@@ -94,7 +102,11 @@ fn fill(desk: Desk, text: &mut [u8; SPACE], payload: &mut [u8], n: usize, seed: 
     let output = desk.output;
     let values = [n, seed];
     let told = output.form(text, b"fill %d %d\n", &values);
-    Desk { payload: size, joining, output: told }
+    Desk {
+        payload: size,
+        joining,
+        output: told,
+    }
 }
 
 // The count of a payload's telegrams, or the refusal.
@@ -115,7 +127,15 @@ fn count(output: Output, text: &mut [u8; SPACE], payload: &[u8], l: usize) -> Ou
 }
 
 // One telegram into `room`, or the refusal.
-fn telegram(output: Output, text: &mut [u8; SPACE], payload: &[u8], l: usize, msg_id: u32, number: usize, room: &mut [u8]) -> Output {
+fn telegram(
+    output: Output,
+    text: &mut [u8; SPACE],
+    payload: &[u8],
+    l: usize,
+    msg_id: u32,
+    number: usize,
+    room: &mut [u8],
+) -> Output {
     let answer = segmentation::cut(l, msg_id, payload, number, room);
     let refused = answer.number();
     if refused != 0 {
@@ -136,14 +156,30 @@ fn low(msg_id: u32) -> usize {
     (msg_id % 65536) as usize
 }
 
-fn cut(output: Output, text: &mut [u8; SPACE], payload: &[u8], l: usize, msg_id: u32, number: usize, room: &mut [u8]) -> Output {
+fn cut(
+    output: Output,
+    text: &mut [u8; SPACE],
+    payload: &[u8],
+    l: usize,
+    msg_id: u32,
+    number: usize,
+    room: &mut [u8],
+) -> Output {
     let values = [l, high(msg_id), low(msg_id), number, room.len()];
     let asked = output.form(text, b"cut %d %w%w %d %d\n", &values);
     telegram(asked, text, payload, l, msg_id, number, room)
 }
 
 // This many telegrams of the payload.
-fn each(output: Output, text: &mut [u8; SPACE], payload: &[u8], l: usize, msg_id: u32, telegrams: usize, room: &mut [u8]) -> Output {
+fn each(
+    output: Output,
+    text: &mut [u8; SPACE],
+    payload: &[u8],
+    l: usize,
+    msg_id: u32,
+    telegrams: usize,
+    room: &mut [u8],
+) -> Output {
     let mut next = output;
     let mut made = 0;
     while made < telegrams {
@@ -154,7 +190,14 @@ fn each(output: Output, text: &mut [u8; SPACE], payload: &[u8], l: usize, msg_id
 }
 
 // All telegrams of the payload, or the refusal.
-fn cut_all(output: Output, text: &mut [u8; SPACE], payload: &[u8], l: usize, msg_id: u32, room: &mut [u8]) -> Output {
+fn cut_all(
+    output: Output,
+    text: &mut [u8; SPACE],
+    payload: &[u8],
+    l: usize,
+    msg_id: u32,
+    room: &mut [u8],
+) -> Output {
     let values = [l, high(msg_id), low(msg_id)];
     let asked = output.form(text, b"cutall %d %w%w\n", &values);
     let next = counted(asked, text, payload, l);
@@ -173,7 +216,13 @@ fn join_width(l: usize, room: usize, n: usize) -> usize {
 }
 
 // The join command in its normal form.
-fn join_echo(output: Output, text: &mut [u8; SPACE], l: usize, room: usize, bytes: &[u8]) -> Output {
+fn join_echo(
+    output: Output,
+    text: &mut [u8; SPACE],
+    l: usize,
+    room: usize,
+    bytes: &[u8],
+) -> Output {
     let values = [l, room];
     let named = output.form(text, b"join %d %d", &values);
     if bytes.len() == 0 {
@@ -202,43 +251,93 @@ fn join(desk: Desk, text: &mut [u8; SPACE], buffer: &mut [u8], l: usize, bytes: 
     match answer {
         JoinAnswer::Refused(number) => {
             let refused = remarks::refusal(told, text, number);
-            Desk { payload: desk.payload, joining: next, output: refused }
+            Desk {
+                payload: desk.payload,
+                joining: next,
+                output: refused,
+            }
         }
         JoinAnswer::Open => {
             let opened = told.line(text, b"= open");
-            Desk { payload: desk.payload, joining: next, output: opened }
+            Desk {
+                payload: desk.payload,
+                joining: next,
+                output: opened,
+            }
         }
         JoinAnswer::Complete { msg_id, length } => {
             let size = smaller(length, buffer.len());
             let whole = message(told, text, msg_id, &buffer[0..size]);
-            Desk { payload: desk.payload, joining: next, output: whole }
+            Desk {
+                payload: desk.payload,
+                joining: next,
+                output: whole,
+            }
         }
     }
 }
 
 // A command line.
-fn obey(desk: Desk, text: &mut [u8; SPACE], line: &[u8], bytes: &mut [u8], payload: &mut [u8], room: &mut [u8], buffer: &mut [u8]) -> Desk {
+fn obey(
+    desk: Desk,
+    text: &mut [u8; SPACE],
+    line: &[u8],
+    bytes: &mut [u8],
+    payload: &mut [u8],
+    room: &mut [u8],
+    buffer: &mut [u8],
+) -> Desk {
     let command = command::parse(line, bytes);
     let output = desk.output;
     let size = smaller(desk.payload, payload.len());
     match command {
-        Command::NotUnderstood(reason) => with_output(desk, remarks::not_understood(output, text, line, reason)),
+        Command::NotUnderstood(reason) => with_output(
+            desk,
+            remarks::not_understood(output, text, line, reason),
+        ),
         Command::Payload(n) => {
             let length = smaller(n, bytes.len());
             set_payload(desk, text, &bytes[0..length], payload)
         }
         Command::Fill { n, seed } => fill(desk, text, payload, n, seed),
         Command::Count(l) => with_output(desk, count(output, text, &payload[0..size], l)),
-        Command::Cut { l, msg_id, number, room: n } => {
+        Command::Cut {
+            l,
+            msg_id,
+            number,
+            room: n,
+        } => {
             let lent = smaller(n, room.len());
-            with_output(desk, cut(output, text, &payload[0..size], l, msg_id, number, &mut room[0..lent]))
+            with_output(
+                desk,
+                cut(
+                    output,
+                    text,
+                    &payload[0..size],
+                    l,
+                    msg_id,
+                    number,
+                    &mut room[0..lent],
+                ),
+            )
         }
-        Command::CutAll { l, msg_id } => with_output(desk, cut_all(output, text, &payload[0..size], l, msg_id, room)),
+        Command::CutAll { l, msg_id } => with_output(
+            desk,
+            cut_all(output, text, &payload[0..size], l, msg_id, room),
+        ),
         Command::Rejoin => {
             let joining = Reassembly::fresh();
-            Desk { payload: desk.payload, joining, output: output.line(text, b"rejoin") }
+            Desk {
+                payload: desk.payload,
+                joining,
+                output: output.line(text, b"rejoin"),
+            }
         }
-        Command::Join { l, room: n, n: length } => {
+        Command::Join {
+            l,
+            room: n,
+            n: length,
+        } => {
             let lent = smaller(n, buffer.len());
             let known = smaller(length, bytes.len());
             if MAX_LINE < join_width(l, n, known) {
@@ -250,7 +349,15 @@ fn obey(desk: Desk, text: &mut [u8; SPACE], line: &[u8], bytes: &mut [u8], paylo
 }
 
 // A line of any kind.
-fn answer(desk: Desk, text: &mut [u8; SPACE], line: &[u8], bytes: &mut [u8], payload: &mut [u8], room: &mut [u8], buffer: &mut [u8]) -> Desk {
+fn answer(
+    desk: Desk,
+    text: &mut [u8; SPACE],
+    line: &[u8],
+    bytes: &mut [u8],
+    payload: &mut [u8],
+    room: &mut [u8],
+    buffer: &mut [u8],
+) -> Desk {
     let kind = remarks::kind_of(line);
     let output = desk.output;
     match kind {
@@ -261,7 +368,16 @@ fn answer(desk: Desk, text: &mut [u8; SPACE], line: &[u8], bytes: &mut [u8], pay
 }
 
 // A line as it was read, of up to `length` bytes, or a too long one.
-fn if_fits(desk: Desk, text: &mut [u8; SPACE], line: &[u8], length: usize, bytes: &mut [u8], payload: &mut [u8], room: &mut [u8], buffer: &mut [u8]) -> Desk {
+fn if_fits(
+    desk: Desk,
+    text: &mut [u8; SPACE],
+    line: &[u8],
+    length: usize,
+    bytes: &mut [u8],
+    payload: &mut [u8],
+    room: &mut [u8],
+    buffer: &mut [u8],
+) -> Desk {
     let output = desk.output;
     if line.len() < length {
         return with_output(desk, remarks::not_understood(output, text, line, TOO_LONG));
@@ -270,7 +386,16 @@ fn if_fits(desk: Desk, text: &mut [u8; SPACE], line: &[u8], length: usize, bytes
 }
 
 // A line as it was read, and nothing left waiting to be written.
-fn turn(desk: Desk, text: &mut [u8; SPACE], line: &[u8; MAX_LINE], length: usize, bytes: &mut [u8; MAX_TELEGRAM], payload: &mut [u8; MAX_PAYLOAD], room: &mut [u8; MAX_PAYLOAD], buffer: &mut [u8; MAX_BUFFER]) -> Desk {
+fn turn(
+    desk: Desk,
+    text: &mut [u8; SPACE],
+    line: &[u8; MAX_LINE],
+    length: usize,
+    bytes: &mut [u8; MAX_TELEGRAM],
+    payload: &mut [u8; MAX_PAYLOAD],
+    room: &mut [u8; MAX_PAYLOAD],
+    buffer: &mut [u8; MAX_BUFFER],
+) -> Desk {
     let next = if_fits(desk, text, line, length, bytes, payload, room, buffer);
     let written = next.output;
     with_output(next, written.drained(text))
@@ -285,7 +410,11 @@ fn play() {
     let mut payload = [0u8; MAX_PAYLOAD];
     let mut room = [0u8; MAX_PAYLOAD];
     let mut buffer = [0u8; MAX_BUFFER];
-    let mut desk = Desk { payload: 0, joining: Reassembly::fresh(), output: Output::new() };
+    let mut desk = Desk {
+        payload: 0,
+        joining: Reassembly::fresh(),
+        output: Output::new(),
+    };
     let mut input = Input::new();
     // A loop has to end; no script is as long as this.
     let mut turns = u64::MAX;
@@ -296,7 +425,16 @@ fn play() {
             return;
         }
         input = read.input;
-        desk = turn(desk, &mut text, &line, read.length, &mut bytes, &mut payload, &mut room, &mut buffer);
+        desk = turn(
+            desk,
+            &mut text,
+            &line,
+            read.length,
+            &mut bytes,
+            &mut payload,
+            &mut room,
+            &mut buffer,
+        );
         let output = desk.output;
         if output.closed {
             return;

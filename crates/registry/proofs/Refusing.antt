@@ -140,17 +140,12 @@ module _ (s : RegistryImage) (full : length (s .entries) ≡ 63) (c x : ℕ) {n 
             ∙ (λ i. refuseIf ((ap (λ (r : Row). isNotOk (viewOf s .state) && not (isOpen r)) (own current nonzero within d) ∙ h) i) 8
             (answer (verdict (others (seatAt (viewOf s .rows) x)) (seatAt (viewOf s .rows) x .row) a) x a ps (seatAt (viewOf s .rows) x) (viewOf s)))
 
-        pub answer-8 : (a : ℕ) (ps : List Pair) → isNotOk (stateOf (s .state .0)) ≡ true → isOpen (rowOf (getD (s .entries) (x - 1) d)) ≡ false
+        pub answer-8 : (a : ℕ) (ps : List Pair) → (isNotOk (stateOf (s .state .0)) && not (isOpen (rowOf (getD (s .entries) (x - 1) d)))) ≡ true
             → concluded (viewOf s) (respond (viewOf s) (ANSWER c x a ps)) ≡ refused 8
         unfolding concluded refuseIf viewOf
-        answer-8 a ps h g = ap (concluded (viewOf s)) (answer-is a ps (λ i. h i && not (g i)))
+        answer-8 a ps h = ap (concluded (viewOf s)) (answer-is a ps h)
 
-        pub answer-open : (a : ℕ) (ps : List Pair) → isNotOk (stateOf (s .state .0)) ≡ true → isOpen (rowOf (getD (s .entries) (x - 1) d)) ≡ true
+        pub answer-taken : (a : ℕ) (ps : List Pair) → (isNotOk (stateOf (s .state .0)) && not (isOpen (rowOf (getD (s .entries) (x - 1) d)))) ≡ false
             → concluded (viewOf s) (respond (viewOf s) (ANSWER c x a ps)) ≡ announceOutcome (viewOf s) x a ps
         unfolding refuseIf viewOf
-        answer-open a ps h g = ap (concluded (viewOf s)) (answer-is a ps (λ i. h i && not (g i)))
-
-        pub answer-else : (a : ℕ) (ps : List Pair) → isNotOk (stateOf (s .state .0)) ≡ false
-            → concluded (viewOf s) (respond (viewOf s) (ANSWER c x a ps)) ≡ announceOutcome (viewOf s) x a ps
-        unfolding refuseIf viewOf
-        answer-else a ps h = ap (concluded (viewOf s)) (answer-is a ps (λ i. h i && not (isOpen (rowOf (getD (s .entries) (x - 1) d)))))
+        answer-taken a ps h = ap (concluded (viewOf s)) (answer-is a ps h)

@@ -1,12 +1,15 @@
 // ANSWER and NONE: what a node announces, and its silence.
 ghost use mathlib.Core.Path.{_≡_};
+ghost use mathlib.Core.Bool.{not, _&&_};
 ghost use Prim.Native.Nat.{_≤_, _<_};
 ghost use lib.ListN.{length};
 ghost use Rattle.rules.specs.House.{maxPass};
+ghost use Rattle.rules.specs.Picture.{isNotOk, isOpen};
 ghost use Rattle.rules.specs.Event.{ANSWER, NONE};
 ghost use Rattle.rules.specs.Step.{respond};
 ghost use Rattle.rules.specs.Run.{concluded, written};
 ghost use Rattle.node.specs.View.{rowOf, pairsOf};
+ghost use Rattle.closing.specs.State.{stateOf};
 ghost use Rattle.registry.specs.View.{viewOf};
 ghost use Rattle.registry.specs.Outcome.{Does, Seat, replaceOutcome, announceOutcome, conflictOutcome, ignoreOutcome, restartOutcome, keepOutcome, othersAtLimit};
 use super::image::RegistryImage;
@@ -17,6 +20,7 @@ use super::scan::NOT_ASKED;
 use super::scan::WRONG_PASS;
 use closing::notes;
 use closing::state::NOTOK;
+use closing::state::RegistryState;
 use entries::changes;
 use entries::claims;
 use node::address::LogicalNodeAddress;
@@ -32,6 +36,19 @@ use records::order::Notice;
 pub const NO_SUCH_POSITION: u8 = 6;
 
 pub const POSITION_IGNORED: u8 = 7;
+
+// In NOTOK, and the entry's question is not open.
+fn unasked(state: RegistryState, entry: NodeEntry) -> bool
+    ensures { λ r. ⌜ r ≡ (isNotOk (stateOf (state .0)) && not (isOpen (rowOf entry))) ⌝ }
+{
+    if state.0 == NOTOK {
+        if entry.is_open() {
+            return false;
+        }
+        return true;
+    }
+    false
+}
 
 impl RegistryImage {
     // The entry of a position becomes another: what is told of it, and the ending.
@@ -211,10 +228,7 @@ impl RegistryImage {
             return self.refuse(POSITION_IGNORED);
         }
         let state = self.state;
-        if state.0 == NOTOK {
-            if entry.is_open() {
-                return self.announce(out, position, address, announced);
-            }
+        if unasked(state, entry) {
             return self.refuse(NOT_ASKED);
         }
         self.announce(out, position, address, announced)

@@ -13,7 +13,7 @@ const NEW: u8 = 5;
 
 const INVALID: u8 = 6;
 
-// An event's third byte is its kind.
+// The third byte of an event or an order is its kind.
 pub fn kind_of(bytes: &[u8]) -> u8 {
     if bytes.len() < 3 {
         return 0;
@@ -22,7 +22,7 @@ pub fn kind_of(bytes: &[u8]) -> u8 {
 }
 
 // A blank stands after byte n of an event, where more bytes follow.
-pub fn event_gap(kind: u8, n: usize) -> bool {
+fn event_gap(kind: u8, n: usize) -> bool {
     match n {
         2 | 3 | 7 | 8 => true,
         10 | 11 => kind == ANSWER,
@@ -39,7 +39,7 @@ pub fn event_gap(kind: u8, n: usize) -> bool {
 }
 
 // A blank stands after byte n of an order, where more bytes follow.
-pub fn order_gap(kind: u8, n: usize) -> bool {
+fn order_gap(kind: u8, n: usize) -> bool {
     match n {
         2 | 3 | 7 | 8 => true,
         _ => {
@@ -53,6 +53,14 @@ pub fn order_gap(kind: u8, n: usize) -> bool {
             }
         }
     }
+}
+
+// A blank stands there in an order, or in an event.
+fn gap(order: bool, kind: u8, n: usize) -> bool {
+    if order {
+        return order_gap(kind, n);
+    }
+    event_gap(kind, n)
 }
 
 // Two digits, and a blank before them.
@@ -81,28 +89,13 @@ pub fn wider(bytes: &[u8], most: usize) -> bool {
     most < width
 }
 
-// An event's bytes.
-pub fn event(output: Output, text: &mut [u8; SPACE], bytes: &[u8]) -> Output {
+// The bytes of an event, or of an order.
+pub fn spaced(output: Output, text: &mut [u8; SPACE], bytes: &[u8], order: bool) -> Output {
     let kind = kind_of(bytes);
     let mut next = output;
     let mut i = 0;
     while i < bytes.len() {
-        if event_gap(kind, i) {
-            next = next.byte(text, b' ');
-        }
-        next = next.hex(text, bytes[i]);
-        i += 1;
-    }
-    next
-}
-
-// An order's bytes.
-pub fn order(output: Output, text: &mut [u8; SPACE], bytes: &[u8]) -> Output {
-    let kind = kind_of(bytes);
-    let mut next = output;
-    let mut i = 0;
-    while i < bytes.len() {
-        if order_gap(kind, i) {
+        if gap(order, kind, i) {
             next = next.byte(text, b' ');
         }
         next = next.hex(text, bytes[i]);

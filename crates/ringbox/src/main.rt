@@ -5,7 +5,6 @@ mod help;
 mod orders;
 mod show;
 
-ghost use Prim.Native.Nat.{_≤_};
 ghost use Rattle.registry.specs.View.{viewOf};
 ghost use Rattle.registry.specs.Outcome.{Reached};
 use command::Command;
@@ -19,6 +18,7 @@ use console::remarks;
 use console::remarks::LineKind;
 use registry::image::RegistryImage;
 use script::arguments::TOO_LONG;
+use script::numbers::smaller;
 
 // L of the picture at the start, and the order room.
 const FIRST_SIZE: usize = 12;
@@ -76,16 +76,6 @@ fn room(bench: Bench, text: &mut [u8; SPACE], n: usize) -> Bench
     }
 }
 
-// The smaller of two numbers.
-fn smaller(a: usize, b: usize) -> usize
-    ensures { λ r. ⌜ (r ≤ a) × (r ≤ b) ⌝ }
-{
-    if a <= b {
-        return a;
-    }
-    b
-}
-
 // A record in its normal form.
 fn echo(output: Output, text: &mut [u8; SPACE], record: &[u8]) -> Output {
     let mark = output.byte(text, b'>');
@@ -93,7 +83,7 @@ fn echo(output: Output, text: &mut [u8; SPACE], record: &[u8]) -> Output {
         return mark.line_end(text);
     }
     let blank = mark.byte(text, b' ');
-    let told = fields::event(blank, text, record);
+    let told = fields::spaced(blank, text, record, false);
     told.line_end(text)
 }
 

@@ -138,7 +138,7 @@ fn in_words(output: Output, text: &mut [u8; SPACE], bytes: &[u8]) -> Output {
 // One order's line.
 fn line(output: Output, text: &mut [u8; SPACE], bytes: &[u8]) -> Output {
     let mark = output.bytes(text, b"< ");
-    let order = fields::order(mark, text, bytes);
+    let order = fields::spaced(mark, text, bytes, true);
     let gap = order.bytes(text, b"  ");
     let told = in_words(gap, text, bytes);
     told.line_end(text)

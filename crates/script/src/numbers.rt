@@ -1,6 +1,6 @@
 // Numbers and bytes as a script writes them.
 ghost use mathlib.Core.Path.{_≡_};
-ghost use Prim.Native.Nat.{_%_};
+ghost use Prim.Native.Nat.{_%_, _≤_, min};
 ghost use Rattle.script.specs.Text.{allDigits, number, decimalOf, byteOf};
 use super::digits;
 
@@ -74,4 +74,14 @@ pub fn byte(high: u8, low: u8) -> u8
 {
     let value = digits::hex_value(high) as usize * 16 + digits::hex_value(low) as usize;
     (value % 256) as u8
+}
+
+// The smaller of two numbers.
+pub fn smaller(a: usize, b: usize) -> usize
+    ensures { λ r. ⌜ (r ≡ min a b) × (r ≤ a) × (r ≤ b) ⌝ }
+{
+    if a <= b {
+        return a;
+    }
+    b
 }

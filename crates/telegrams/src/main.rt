@@ -3,7 +3,6 @@ mod command;
 mod fields;
 mod help;
 
-ghost use Prim.Native.Nat.{_≤_};
 use command::Command;
 use command::MAX_BUFFER;
 use command::MAX_PAYLOAD;
@@ -18,6 +17,7 @@ use console::remarks::LineKind;
 use reassembly::JoinAnswer;
 use reassembly::Reassembly;
 use script::arguments::TOO_LONG;
+use script::numbers::smaller;
 
 // How many bytes the payload has, the join state, and what is written.
 struct Desk {
@@ -28,16 +28,6 @@ struct Desk {
 
 // How many characters `join` and the blank behind it have.
 const JOIN_MARK: usize = 5;
-
-// The smaller of two numbers.
-fn smaller(a: usize, b: usize) -> usize
-    ensures { λ r. ⌜ (r ≤ a) × (r ≤ b) ⌝ }
-{
-    if a <= b {
-        return a;
-    }
-    b
-}
 
 // The same desk with more written.
 fn with_output(desk: Desk, output: Output) -> Desk {

@@ -1,15 +1,9 @@
+-- `play` is safe, and its loop ends.
+use borrow.Author.Needs.{needs}
 use Rattle.registry.specs.View.{viewOf}
 use Rattle.registry.specs.Outcome.{Reached}
-use borrow.Author.Needs.{needs}
 use Rattle.ringbox.proofs.play.Statement.{statement}
 use Rattle.ringbox.proofs.play.Tie as tie
-use Rattle.ringbox.proofs.play.Reads as reads
-use Rattle.ringbox.proofs.play.Lts as lts
-use Rattle.console.proofs.input.Input.line.Reads as line-reads
-use Rattle.console.proofs.input.Input.new.Reads as input-Input-new-reads
-use Rattle.console.proofs.output.Output.new.Reads as output-Output-new-reads
-use Rattle.registry.proofs.image.RegistryImage.fresh.Reads as fresh-reads
-use Rattle.ringbox.proofs.turn.Reads as turn-reads
 
 abbrev Inv-loop : tie.InvT-loop
 Inv-loop chunk₀ line₀ text₀ record₀ orders₀ bench₀ input₀ turns₀ chunk line text «record» orders bench input turns = Reached (viewOf (bench .picture))

@@ -1,12 +1,10 @@
-use borrow.Author.Needs.{needs}
+-- `each` is safe, and its loop ends.
 use Prim.Native.Nat.{_-_}
 use mathlib.Core.Path.{_≡_}
+use borrow.Author.Needs.{needs}
 use lib.ListN.{length}
 use Rattle.telegrams.proofs.each.Statement.{statement}
 use Rattle.telegrams.proofs.each.Tie as tie
-use Rattle.telegrams.proofs.each.Reads as reads
-use Rattle.telegrams.proofs.each.Lts as lts
-use Rattle.telegrams.proofs.telegram.Reads as telegram-reads
 
 abbrev Inv-loop : tie.InvT-loop
 Inv-loop text₀ payload l msg-id telegrams room₀ next₀ made₀ text room next made = length room ≡ length room₀

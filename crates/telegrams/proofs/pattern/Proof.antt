@@ -1,11 +1,10 @@
-use borrow.Author.Needs.{needs}
+-- `pattern` is safe, and its loop ends.
 use Prim.Native.Nat.{_-_}
 use mathlib.Core.Path.{_≡_}
+use borrow.Author.Needs.{needs}
 use lib.ListN.{length}
 use Rattle.telegrams.proofs.pattern.Statement.{statement}
 use Rattle.telegrams.proofs.pattern.Tie as tie
-use Rattle.telegrams.proofs.pattern.Reads as reads
-use Rattle.telegrams.proofs.pattern.Lts as lts
 
 abbrev Inv-loop : tie.InvT-loop
 Inv-loop payload₀ n seed start i₀ payload i = length payload ≡ length payload₀

@@ -1,13 +1,7 @@
+-- `play` is safe, and its loop ends.
 use borrow.Author.Needs.{needs}
 use Rattle.telegrams.proofs.play.Statement.{statement}
 use Rattle.telegrams.proofs.play.Tie as tie
-use Rattle.telegrams.proofs.play.Reads as reads
-use Rattle.telegrams.proofs.play.Lts as lts
-use Rattle.console.proofs.input.Input.line.Reads as line-reads
-use Rattle.console.proofs.input.Input.new.Reads as input-Input-new-reads
-use Rattle.console.proofs.output.Output.new.Reads as output-Output-new-reads
-use Rattle.reassembly.proofs.Reassembly.fresh.Reads as fresh-reads
-use Rattle.telegrams.proofs.turn.Reads as turn-reads
 
 abbrev Inv-loop : tie.InvT-loop
 Inv-loop chunk₀ line₀ text₀ bytes₀ payload₀ room₀ buffer₀ desk₀ input₀ turns₀ chunk line text bytes payload room buffer desk input turns = Unit {0}

@@ -1,13 +1,9 @@
-use borrow.Author.Needs.{needs}
+-- `wider` is safe, and its loop ends.
 use Prim.Native.Nat.{_-_, _≤_}
+use borrow.Author.Needs.{needs}
 use lib.ListN.{length}
 use Rattle.ringbox.proofs.fields.wider.Statement.{statement}
 use Rattle.ringbox.proofs.fields.wider.Tie as tie
-use Rattle.ringbox.proofs.fields.wider.Reads as reads
-use Rattle.ringbox.proofs.fields.wider.Lts as lts
-use Rattle.ringbox.proofs.fields.event_gap.Reads as event-gap-reads
-use Rattle.ringbox.proofs.fields.kind_of.Reads as kind-of-reads
-use Rattle.ringbox.proofs.fields.widened.Reads as widened-reads
 
 abbrev Inv-loop : tie.InvT-loop
 Inv-loop bytes most kind width₀ i₀ width i = width ≤ 16387

@@ -1,12 +1,9 @@
-use borrow.Author.Needs.{needs}
+-- `lines` is safe, and its loop ends.
 use Prim.Native.Nat.{_-_}
+use borrow.Author.Needs.{needs}
 use lib.ListN.{length}
 use Rattle.ringbox.proofs.orders.lines.Statement.{statement}
 use Rattle.ringbox.proofs.orders.lines.Tie as tie
-use Rattle.ringbox.proofs.orders.lines.Reads as reads
-use Rattle.ringbox.proofs.orders.lines.Lts as lts
-use Rattle.ringbox.proofs.orders.line.Reads as line-reads
-use Rattle.ringbox.proofs.orders.order_end.Reads as order-end-reads
 
 abbrev Inv-loop : tie.InvT-loop
 Inv-loop text₀ bytes next₀ at₀ text next at = Unit {0}

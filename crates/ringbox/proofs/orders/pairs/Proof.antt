@@ -1,11 +1,9 @@
-use borrow.Author.Needs.{needs}
+-- `pairs` is safe, and its loop ends.
 use Prim.Native.Nat.{_-_}
+use borrow.Author.Needs.{needs}
 use lib.ListN.{length}
 use Rattle.ringbox.proofs.orders.pairs.Statement.{statement}
 use Rattle.ringbox.proofs.orders.pairs.Tie as tie
-use Rattle.ringbox.proofs.orders.pairs.Reads as reads
-use Rattle.ringbox.proofs.orders.pairs.Lts as lts
-use Rattle.ringbox.proofs.orders.pair.Reads as pair-reads
 
 abbrev Inv-loop : tie.InvT-loop
 Inv-loop text₀ bytes next₀ i₀ text next i = Unit {0}

@@ -1,11 +1,8 @@
-use borrow.Author.Needs.{needs}
+-- `kept_pairs` is safe, and its loop ends.
 use Prim.Native.Nat.{_-_}
+use borrow.Author.Needs.{needs}
 use Rattle.ringbox.proofs.show.kept_pairs.Statement.{statement}
 use Rattle.ringbox.proofs.show.kept_pairs.Tie as tie
-use Rattle.ringbox.proofs.show.kept_pairs.Reads as reads
-use Rattle.ringbox.proofs.show.kept_pairs.Lts as lts
-use Rattle.node.proofs.pairs.Pairs.len.Reads as len-reads
-use Rattle.ringbox.proofs.orders.pair.Reads as pair-reads
 
 abbrev Inv-loop : tie.InvT-loop
 Inv-loop text₀ pairs next₀ n i₀ text next i = Unit {0}

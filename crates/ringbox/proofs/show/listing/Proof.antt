@@ -1,11 +1,8 @@
-use borrow.Author.Needs.{needs}
+-- `listing` is safe, and its loop ends.
 use Prim.Native.Nat.{_-_}
+use borrow.Author.Needs.{needs}
 use Rattle.ringbox.proofs.show.listing.Statement.{statement}
 use Rattle.ringbox.proofs.show.listing.Tie as tie
-use Rattle.ringbox.proofs.show.listing.Reads as reads
-use Rattle.ringbox.proofs.show.listing.Lts as lts
-use Rattle.console.proofs.output.Output.form.Reads as form-reads
-use Rattle.ringbox.proofs.show.listed.Reads as listed-reads
 
 abbrev Inv-loop : tie.InvT-loop
 Inv-loop text₀ listing next₀ i₀ text next i = Unit {0}

@@ -1,12 +1,8 @@
-use borrow.Author.Needs.{needs}
+-- `rows` is safe, and its loop ends.
 use Prim.Native.Nat.{_-_}
+use borrow.Author.Needs.{needs}
 use Rattle.ringbox.proofs.show.rows.Statement.{statement}
 use Rattle.ringbox.proofs.show.rows.Tie as tie
-use Rattle.ringbox.proofs.show.rows.Reads as reads
-use Rattle.ringbox.proofs.show.rows.Lts as lts
-use Rattle.registry.proofs.image.RegistryImage.entry_at.Reads as entry-at-reads
-use Rattle.registry.proofs.image.RegistryImage.nodes.Reads as nodes-reads
-use Rattle.ringbox.proofs.show.row.Reads as row-reads
 
 abbrev Inv-loop : tie.InvT-loop
 Inv-loop text₀ picture nodes next₀ x₀ text next x = Unit {0}

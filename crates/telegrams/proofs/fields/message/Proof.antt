@@ -1,14 +1,9 @@
-use borrow.Author.Needs.{needs}
+-- `message` is safe, and its loop ends.
 use Prim.Native.Nat.{_-_}
+use borrow.Author.Needs.{needs}
 use lib.ListN.{length}
 use Rattle.telegrams.proofs.fields.message.Statement.{statement}
 use Rattle.telegrams.proofs.fields.message.Tie as tie
-use Rattle.telegrams.proofs.fields.message.Reads as reads
-use Rattle.telegrams.proofs.fields.message.Lts as lts
-use Rattle.console.proofs.output.Output.bytes.Reads as bytes-reads
-use Rattle.console.proofs.output.Output.hex_bytes.Reads as hex-bytes-reads
-use Rattle.console.proofs.output.Output.line_end.Reads as output-Output-line-end-reads
-use Rattle.telegrams.proofs.fields.line_end.Reads as fields-line-end-reads
 
 abbrev Inv-loop : tie.InvT-loop
 Inv-loop text₀ bytes next₀ at₀ t9 text next at = Unit {0}

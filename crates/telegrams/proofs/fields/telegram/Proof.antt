@@ -1,13 +1,9 @@
-use borrow.Author.Needs.{needs}
+-- `telegram` is safe, and its loop ends.
 use Prim.Native.Nat.{_-_}
+use borrow.Author.Needs.{needs}
 use lib.ListN.{length}
 use Rattle.telegrams.proofs.fields.telegram.Statement.{statement}
 use Rattle.telegrams.proofs.fields.telegram.Tie as tie
-use Rattle.telegrams.proofs.fields.telegram.Reads as reads
-use Rattle.telegrams.proofs.fields.telegram.Lts as lts
-use Rattle.console.proofs.output.Output.byte.Reads as byte-reads
-use Rattle.console.proofs.output.Output.hex.Reads as hex-reads
-use Rattle.telegrams.proofs.fields.gap.Reads as gap-reads
 
 abbrev Inv-loop : tie.InvT-loop
 Inv-loop text₀ bytes next₀ i₀ text next i = Unit {0}

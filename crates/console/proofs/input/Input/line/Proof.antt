@@ -1,11 +1,7 @@
+-- `line` is safe, and its loop ends.
 use borrow.Author.Needs.{needs}
 use Rattle.console.proofs.input.Input.line.Statement.{statement}
 use Rattle.console.proofs.input.Input.line.Tie as tie
-use Rattle.console.proofs.input.Input.line.Reads as reads
-use Rattle.console.proofs.input.Input.line.Lts as lts
-use Rattle.console.proofs.input.Input.filled.Reads as filled-reads
-use Rattle.console.proofs.input.store.Reads as store-reads
-use Rattle.script.proofs.digits.is_dropped.Reads as is-dropped-reads
 
 abbrev Inv-loop : tie.InvT-loop
 Inv-loop chunk₀ line₀ input₀ seen₀ length₀ turns₀ chunk line input seen length turns = Unit {0}

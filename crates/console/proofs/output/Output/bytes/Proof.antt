@@ -1,11 +1,9 @@
-use borrow.Author.Needs.{needs}
+-- `bytes` is safe, and its loop ends.
 use Prim.Native.Nat.{_-_}
+use borrow.Author.Needs.{needs}
 use lib.ListN.{length}
 use Rattle.console.proofs.output.Output.bytes.Statement.{statement}
 use Rattle.console.proofs.output.Output.bytes.Tie as tie
-use Rattle.console.proofs.output.Output.bytes.Reads as reads
-use Rattle.console.proofs.output.Output.bytes.Lts as lts
-use Rattle.console.proofs.output.Output.byte.Reads as byte-reads
 
 abbrev Inv-loop : tie.InvT-loop
 Inv-loop text₀ bytes next₀ i₀ text next i = Unit {0}

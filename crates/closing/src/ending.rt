@@ -15,8 +15,8 @@ use super::state::OK;
 use super::state::RUNNING;
 use super::state::RegistryState;
 use super::state::STOPPED;
-use records::order;
-use records::order::Notice;
+use orders::order;
+use orders::order::Notice;
 
 // A scan is over: it runs, and no question is open.
 pub fn becomes_ok(state: RegistryState, open: bool) -> bool

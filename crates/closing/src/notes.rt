@@ -20,9 +20,9 @@ use node::entry::NodeEntry;
 use node::entry::SETTING;
 use node::pairs::Pairs;
 use numbering::renumber::Renumbering;
-use records::order;
-use records::order::Delta;
-use records::told;
+use orders::order;
+use orders::order::Delta;
+use orders::told;
 
 // The state is OK.
 pub fn is_ok(state: RegistryState) -> bool

@@ -1,4 +1,2 @@
 -- Laws that several functions' proofs use.
-pub mod Bytes
 pub mod Readings
-pub mod Tellings

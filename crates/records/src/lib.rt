@@ -1,4 +1,2 @@
-// Event records read, and order records written into a lent buffer.
+// Event records read.
 pub mod event; // event.rt: what the bytes of an event say
-pub mod order; // order.rt: one order written
-pub mod told; // told.rt: the orders for the entries of a ring

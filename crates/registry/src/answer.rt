@@ -30,8 +30,8 @@ use node::pairs::Pairs;
 use numbering::held;
 use numbering::judge;
 use numbering::renumber;
-use records::order;
-use records::order::Notice;
+use orders::order;
+use orders::order::Notice;
 
 pub const NO_SUCH_POSITION: u8 = 6;
 

@@ -17,10 +17,10 @@ use closing::state::NOTOK;
 use closing::state::RegistryState;
 use closing::state::STOPPED;
 use entries::changes;
-use records::order;
-use records::order::Notice;
-use records::told;
-use records::told::Which;
+use orders::order;
+use orders::order::Notice;
+use orders::told;
+use orders::told::Which;
 
 // The last pass.
 pub const MAX_PASS: u32 = 4294967295;

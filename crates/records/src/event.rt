@@ -182,10 +182,11 @@ fn read_pairs(bytes: &[u8], count: usize) -> Pairs
     let mut i = 0;
     while i < count {
         let at = ANSWER_HEAD + PAIR * i;
-        let next = pairs.with(bytes[at], bytes[at + 1]);
-        pairs = next;
+        pairs.blocks[i] = bytes[at];
+        pairs.numbers[i] = bytes[at + 1];
         i += 1;
     }
+    pairs.count = count;
     pairs
 }
 

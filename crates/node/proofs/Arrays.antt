@@ -5,7 +5,8 @@ use mathlib.Core.List.{List, [], _∷_, _++_, append-assoc, append-nil}
 use native.Mathlib.Nat.{not-suc-le-zero, le-of-suc-le-suc}
 use native.Mathlib.Omega.{arith}
 use lib.ListN.{length, getD, set, drop}
-use Rattle.laws.specs.Views.{firsts, firsts-length, firsts-here, firsts-past, firsts-at, firsts-set, firsts-push, firsts-min}
+use lib.Seq.{set-out}
+use Rattle.laws.specs.Views.{firsts, firsts-length, firsts-few, firsts-here, firsts-past, firsts-at, firsts-set, firsts-push, firsts-min}
 use mathlib.Core.Bool.{Bool, true, false, cond, not}
 use Rattle.laws.specs.Lists.{select}
 use Rattle.rules.specs.Ending.{missing}
@@ -71,18 +72,33 @@ module _ (bs ns : List ℕ) (h : length bs ≡ 16) (k : length ns ≡ 16) where
       let z = zip-length 16 bs ns h k in
       firsts-at (λ (a : Pair). a) c i d d (zipPairs bs ns) (omega arith) (omega arith) ∙ zip-at i bs ns d (omega arith) (omega arith)
 
+  -- a store behind the first c does not show
+  pairs-behind : (c b n : ℕ) → pairsFrom c (set bs c b) (set ns c n) ≡ pairsFrom c bs ns
+  unfolding pairsFrom
+  pairs-behind c b n =
+      let ps = firsts (λ (a : Pair). a) c (zipPairs bs ns) in
+      ap (firsts (λ (a : Pair). a) c) (zip-set c bs ns b n) ∙ firsts-set (λ (a : Pair). a) c c (pairOf b n) (zipPairs bs ns)
+      ∙ set-out ps c (pairOf b n) (firsts-few (λ (a : Pair). a) c (zipPairs bs ns))
+
   -- one more pair
   pub pairs-push : (c b n : ℕ) → c < 16 → pairsFrom (c + 1) (set bs c b) (set ns c n) ≡ pairsFrom c bs ns ++ pairOf b n ∷ []
   unfolding pairsFrom
   pairs-push c b n l = ap (firsts (λ (a : Pair). a) (c + 1)) (zip-set c bs ns b n) ∙ firsts-push (λ (a : Pair). a) c (pairOf b n) (zipPairs bs ns) (omega (arith, zip-length 16 bs ns h k))
 
+  -- a pair stored behind them, and counted if it is kept
+  pub pairs-next : {e : ℕ} (kept : Bool) (c b n : ℕ) → c < 16 → e ≡ cond kept 1 0
+      → pairsFrom (c + e) (set bs c b) (set ns c n) ≡ pairsFrom c bs ns ++ cond kept (pairOf b n ∷ []) []
+  pairs-next true c b n l f = rw f (pairs-push c b n l)
+  pairs-next false c b n l f = let z : c + 0 ≡ c = omega arith in rw (f, z) (pairs-behind c b n ∙ sym (append-nil (pairsFrom c bs ns)))
+
 -- the pairs that are missing, one at a time: those found so far, and those of the rest
-pub missing-on : (found next : List Pair) {ps rest : List Pair} {a : Pair} (qs : List Pair) {whole : List Pair} → ps ≡ a ∷ rest
-    → next ≡ found ++ missing (a ∷ []) qs → found ++ missing ps qs ≡ whole → next ++ missing rest qs ≡ whole
+pub missing-on : (found next : List Pair) {ps rest : List Pair} {a : Pair} (qs : List Pair) {k : Bool} {whole : List Pair} → ps ≡ a ∷ rest
+    → k ≡ not (rules.holds qs a) → next ≡ found ++ cond k (a ∷ []) [] → found ++ missing ps qs ≡ whole → next ++ missing rest qs ≡ whole
 unfolding missing select
-missing-on found next {ps} {rest} {a} qs e f h =
-    ap (λ (l : List Pair). l ++ missing rest qs) f ∙ append-assoc found (missing (a ∷ []) qs) (missing rest qs)
-    ∙ ap (λ (l : List Pair). found ++ l) (go (not (rules.holds qs a)) ∙ sym (ap (λ (l : List Pair). missing l qs) e)) ∙ h
+missing-on found next {ps} {rest} {a} qs {k} e g f h =
+    ap (λ (l : List Pair). l ++ missing rest qs) f ∙ append-assoc found (cond k (a ∷ []) []) (missing rest qs)
+    ∙ ap (λ (l : List Pair). found ++ l)
+    (go k ∙ ap (λ (b : Bool). cond b (a ∷ missing rest qs) (missing rest qs)) g ∙ sym (ap (λ (l : List Pair). missing l qs) e)) ∙ h
   where
     go : (b : Bool) → cond b (a ∷ []) [] ++ missing rest qs ≡ cond b (a ∷ missing rest qs) (missing rest qs)
     go true = refl

@@ -1,7 +1,8 @@
 // Pairs of block and number (FBlockID, InstID), as many as a node keeps or announces.
 ghost use mathlib.Core.Path.{_≡_};
-ghost use mathlib.Core.List.{[], _∷_, _++_};
-ghost use Prim.Native.Nat.{_+_, _≤_, _<_, min};
+ghost use mathlib.Core.Bool.{cond, not};
+ghost use mathlib.Core.List.{[]};
+ghost use Prim.Native.Nat.{_≤_, min};
 ghost use lib.ListN.{take};
 ghost use Rattle.rules.specs.Picture.{samePair, holds};
 ghost use Rattle.rules.specs.Ending.{missing};
@@ -25,6 +26,16 @@ fn same(block: u8, number: u8, other_block: u8, other_number: u8) -> bool
         return number == other_number;
     }
     false
+}
+
+// By how many pairs a list grows: by one where the pair is kept.
+pub fn one_if(kept: bool) -> usize
+    ensures { λ r. ⌜ (r ≡ cond kept 1 0) × (r ≤ 1) ⌝ }
+{
+    if kept {
+        return 1;
+    }
+    0
 }
 
 impl Pairs {
@@ -75,27 +86,14 @@ impl Pairs {
         false
     }
 
-    // These pairs, and one behind them.
-    pub fn with(mut self, block: u8, number: u8) -> Self
-        requires { ⌜ self .count < 16 ⌝ }
-        ensures { λ r. ⌜ (pairsOf r ≡ pairsOf self ++ pairOf block number ∷ []) × (r .count ≡ self .count + 1) ⌝ }
+    // The pair is none of these.
+    fn lacks(self, block: u8, number: u8) -> bool
+        ensures { λ r. ⌜ r ≡ not (holds (pairsOf self) (pairOf block number)) ⌝ }
     {
-        let n = self.count;
-        self.blocks[n] = block;
-        self.numbers[n] = number;
-        self.count = n + 1;
-        self
-    }
-
-    // These pairs, and one behind them unless `other` holds it.
-    fn with_missing(self, other: Pairs, block: u8, number: u8) -> Self
-        requires { ⌜ self .count < 16 ⌝ }
-        ensures { λ r. ⌜ (pairsOf r ≡ pairsOf self ++ missing (pairOf block number ∷ []) (pairsOf other)) × (r .count ≤ self .count + 1) ⌝ }
-    {
-        if other.holds(block, number) {
-            return self;
+        if self.holds(block, number) {
+            return false;
         }
-        self.with(block, number)
+        true
     }
 
     // The pairs that `other` does not hold.
@@ -104,12 +102,17 @@ impl Pairs {
     {
         let n = self.len();
         let mut left = Pairs::none();
+        let mut end = 0;
         let mut i = 0;
         while i < n {
-            let next = left.with_missing(other, self.blocks[i], self.numbers[i]);
-            left = next;
+            let block = self.blocks[i];
+            let number = self.numbers[i];
+            left.blocks[end] = block;
+            left.numbers[end] = number;
+            end += one_if(other.lacks(block, number));
             i += 1;
         }
+        left.count = end;
         left
     }
 }

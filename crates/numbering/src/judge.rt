@@ -1,13 +1,12 @@
 // Which announced pairs are good, and the pairs that an entry keeps of them.
 ghost use mathlib.Core.Path.{_≡_};
-ghost use mathlib.Core.Bool.{cond};
-ghost use mathlib.Core.List.{[], _∷_, _++_};
-ghost use Prim.Native.Nat.{_+_, _≤_, _<_};
+ghost use mathlib.Core.List.{[]};
 ghost use lib.ListN.{take};
 ghost use Rattle.rules.specs.Renumber.{goods};
 ghost use Rattle.node.specs.View.{pairOf, pairsOf};
 ghost use Rattle.numbering.specs.Marks.{isGoodMarked, judgeMarked, judgedOf};
 use node::pairs::Pairs;
+use node::pairs::one_if;
 
 // The numbers that a pair may have.
 pub const MIN_NUMBER: u8 = 0x01;
@@ -53,28 +52,20 @@ pub fn judge(held: [bool; 16], announced: Pairs) -> [bool; 16]
     good
 }
 
-// The pairs, and one behind them if it is good.
-fn with_good(kept: Pairs, good: bool, block: u8, number: u8) -> Pairs
-    requires { ⌜ kept .count < 16 ⌝ }
-    ensures { λ r. ⌜ (pairsOf r ≡ pairsOf kept ++ cond good (pairOf block number ∷ []) []) × (r .count ≤ kept .count + 1) ⌝ }
-{
-    if good {
-        return kept.with(block, number);
-    }
-    kept
-}
-
 // The good ones of the announced pairs.
 pub fn good_pairs(announced: Pairs, good: [bool; 16]) -> Pairs
     ensures { λ r. ⌜ pairsOf r ≡ goods (judgedOf (pairsOf announced) good) ⌝ }
 {
     let n = announced.len();
     let mut kept = Pairs::none();
+    let mut end = 0;
     let mut i = 0;
     while i < n {
-        let next = with_good(kept, good[i], announced.blocks[i], announced.numbers[i]);
-        kept = next;
+        kept.blocks[end] = announced.blocks[i];
+        kept.numbers[end] = announced.numbers[i];
+        end += one_if(good[i]);
         i += 1;
     }
+    kept.count = end;
     kept
 }

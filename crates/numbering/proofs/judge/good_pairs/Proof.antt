@@ -1,25 +1,26 @@
--- At every turn the good ones found so far and those of the rest are all the good ones.
+-- At every turn the pairs found so far and the good ones of the rest are all good ones.
 use Prim.Native.Nat.{_+_, _-_, _<_, _≤_, min}
-use Rattle.node.proofs.Arrays.{pairs-at, pairs-length}
-use Rattle.node.specs.View.{pairOf, pairsOf}
+use Rattle.laws.specs.Views.{firsts}
+use Rattle.node.proofs.Arrays.{pairs-at, pairs-length, pairs-next}
+use Rattle.node.specs.View.{pairOf, pairsFrom, pairsOf}
 use Rattle.numbering.proofs.Judging.{goods-end, goods-on, judged-here, judged-past}
 use Rattle.numbering.specs.Marks.{judgedOf}
 use Rattle.rules.specs.Picture.{Pair}
 use Rattle.rules.specs.Renumber.{goods}
 use borrow.Author.Needs.{needs}
-use lib.ListN.{drop, getD, length}
+use lib.ListN.{drop, getD, length, length-set}
 use mathlib.Core.Bool.{false}
-use mathlib.Core.List.{List, _++_, _∷_}
-use mathlib.Core.Path.{_∙_, _≡_, ap}
+use mathlib.Core.List.{_++_, _∷_}
+use mathlib.Core.Path.{_∙_, _≡_, ap, refl}
 use native.Mathlib.Omega.{arith}
 use Rattle.numbering.proofs.judge.good_pairs.Statement.{statement}
 use Rattle.numbering.proofs.judge.good_pairs.Tie as tie
 
 abbrev Inv-loop : tie.InvT-loop
-Inv-loop announced good n kept₀ i₀ kept i = (i ≤ n) × (kept .count ≤ i) × (length good ≡ 16) × (length (announced .blocks) ≡ 16) × (length (announced .numbers) ≡ 16) × (pairsOf kept ++ goods (drop i (judgedOf (pairsOf announced) good)) ≡ goods (judgedOf (pairsOf announced) good))
+Inv-loop announced good n kept₀ end₀ i₀ kept end i = (i ≤ n) × (end ≤ i) × (length good ≡ 16) × (length (announced .blocks) ≡ 16) × (length (announced .numbers) ≡ 16) × (length (kept .blocks) ≡ 16) × (length (kept .numbers) ≡ 16) × (pairsFrom end (kept .blocks) (kept .numbers) ++ goods (drop i (judgedOf (pairsOf announced) good)) ≡ goods (judgedOf (pairsOf announced) good))
 
 abbrev μ-loop : tie.MeasureT-loop
-μ-loop announced good n kept₀ i₀ kept i = n - i
+μ-loop announced good n kept₀ end₀ i₀ kept end i = n - i
 
 len-requires : tie.Need-len-requires Inv-loop μ-loop
 len-requires c κs = search needs
@@ -28,38 +29,32 @@ none-requires : tie.Need-none-requires Inv-loop μ-loop
 none-requires c κs = search needs
 
 loop-holds : tie.Need-loop-holds Inv-loop μ-loop
-loop-holds c =
-    let start = c .before .before in
-    (omega arith, omega (arith, c .none .ensures .1), search needs, search needs, search needs, ap (λ (l : List Pair). l ++ goods (judgedOf (pairsOf (start .args .t1)) (start .args .t2))) (c .none .ensures .0))
+unfolding pairsFrom firsts
+loop-holds c = (omega arith, omega arith, search needs, search needs, search needs, search needs, search needs, refl)
 
-array-read-with-good : tie.Need-array-read-with-good Inv-loop μ-loop
-array-read-with-good c =
-    let at-len = c .before .before .before in
-    omega (arith, at-len .len .ensures, c .loop-test .taken)
+element-copy-out-kept : tie.Need-element-copy-out-kept Inv-loop μ-loop
+element-copy-out-kept c = search needs
 
-element-copy-out-with-good : tie.Need-element-copy-out-with-good Inv-loop μ-loop
-element-copy-out-with-good c =
-    let at-len = c .before .before .before in
-    omega (arith, at-len .len .ensures, c .loop-test .taken)
+element-write-kept : tie.Need-element-write-kept Inv-loop μ-loop
+element-write-kept c = search needs
 
-element-copy-out-with-good-2 : tie.Need-element-copy-out-with-good-2 Inv-loop μ-loop
-element-copy-out-with-good-2 c =
-    let at-loop-test = c .before in
-    let at-len = at-loop-test .before .before .before in
-    omega (arith, at-len .len .ensures, at-loop-test .loop-test .taken)
+element-copy-out-kept-2 : tie.Need-element-copy-out-kept-2 Inv-loop μ-loop
+element-copy-out-kept-2 c = search needs
 
-with-good-requires : tie.Need-with-good-requires Inv-loop μ-loop
-with-good-requires c κs =
-    let at-loop-test = c .before .before in
-    let at-loop = at-loop-test .before in
-    let at-len = at-loop .before .before in
-    omega (arith, at-len .len .ensures, at-loop-test .loop-test .taken, at-loop .loop .inv .1)
+element-write-kept-2 : tie.Need-element-write-kept-2 Inv-loop μ-loop
+element-write-kept-2 c = search needs
+
+array-read-one-if : tie.Need-array-read-one-if Inv-loop μ-loop
+array-read-one-if c = search needs
+
+one-if-requires : tie.Need-one-if-requires Inv-loop μ-loop
+one-if-requires c κs = search needs
+
+add-end : tie.Need-add-end Inv-loop μ-loop
+add-end c = search needs
 
 add-i : tie.Need-add-i Inv-loop μ-loop
-add-i c =
-    let at-loop-test = c .before .before .before in
-    let at-len = at-loop-test .before .before .before in
-    omega (arith, at-len .len .ensures, at-loop-test .loop-test .taken)
+add-i c = search needs
 
 loop-less : tie.Need-loop-less Inv-loop μ-loop
 loop-less c = search needs
@@ -71,7 +66,15 @@ loop-again c =
     let at-loop = at-loop-test .before in
     let at-len = at-loop .before .before in
     let start = at-len .before in
-    let w = at-loop .loop .inv in let s = start .args .t1 in let n = pairs-length (s .blocks) (s .numbers) (w .3) (w .4) (s .count) in let l : at-loop .loop .i < min (s .count) 16 = omega (arith, at-len .len .ensures, at-loop-test .loop-test .taken) in (omega arith, omega (arith, w .1, c .with-good .ensures .1), w .2, w .3, w .4, goods-on (pairsOf (at-loop .loop .kept)) (pairsOf (c .with-good .result)) (judged-here (at-loop .loop .i) (pairOf 0 0) false (pairsOf s) (start .args .t2) (omega arith) (omega (arith, w .2)) ∙ ap (λ (a : Pair). record { pair = a; good = getD (start .args .t2) (at-loop .loop .i) false } ∷ drop (at-loop .loop .i + 1) (judgedOf (pairsOf s) (start .args .t2))) (pairs-at (s .blocks) (s .numbers) (w .3) (w .4) (s .count) (at-loop .loop .i) (pairOf 0 0) l)) (c .with-good .ensures .0) (w .5))
+    let w = at-loop .loop .inv in
+    let s = start .args .t1 in
+    let g = start .args .t2 in
+    let k = at-loop .loop .kept in
+    let end = at-loop .loop .end in
+    let i = at-loop .loop .i in
+    let n = pairs-length (s .blocks) (s .numbers) (w .3) (w .4) (s .count) in
+    let l : i < min (s .count) 16 = omega (arith, at-len .len .ensures, at-loop-test .loop-test .taken) in
+    (omega arith, omega (arith, w .1, c .one-if .ensures .1), w .2, w .3, w .4, simp length-set (w .5), simp length-set (w .6), goods-on (pairsFrom end (k .blocks) (k .numbers)) _ (judged-here i (pairOf 0 0) false (pairsOf s) g (omega arith) (omega (arith, w .2)) ∙ ap (λ (a : Pair). record { pair = a; good = getD g i false } ∷ drop (i + 1) (judgedOf (pairsOf s) g)) (pairs-at (s .blocks) (s .numbers) (w .3) (w .4) (s .count) i (pairOf 0 0) l)) (pairs-next (k .blocks) (k .numbers) (w .5) (w .6) (getD g i false) end _ _ (omega (arith, w .1)) (c .one-if .ensures .0)) (w .7))
 
 returns : tie.Need-returns Inv-loop μ-loop
 unfolding pairsOf
@@ -79,7 +82,10 @@ returns c =
     let at-loop = c .before in
     let at-len = at-loop .before .before in
     let start = at-len .before in
-    let w = at-loop .loop .inv in let s = start .args .t1 in goods-end (pairsOf (at-loop .loop .kept)) (judged-past (at-loop .loop .i) (pairsOf s) (start .args .t2) (omega (arith, pairs-length (s .blocks) (s .numbers) (w .3) (w .4) (s .count), at-len .len .ensures, c .loop-test .left))) (w .5)
+    let w = at-loop .loop .inv in
+    let s = start .args .t1 in
+    let k = at-loop .loop .kept in
+    goods-end (pairsFrom (at-loop .loop .end) (k .blocks) (k .numbers)) (judged-past (at-loop .loop .i) (pairsOf s) (start .args .t2) (omega (arith, pairs-length (s .blocks) (s .numbers) (w .3) (w .4) (s .count), at-len .len .ensures, c .loop-test .left))) (w .7)
 
 pub good-pairs-spec : {M : Type 1} → statement M
 good-pairs-spec =
@@ -90,10 +96,13 @@ good-pairs-spec =
     len-requires
     none-requires
     loop-holds
-    array-read-with-good
-    element-copy-out-with-good
-    element-copy-out-with-good-2
-    with-good-requires
+    element-copy-out-kept
+    element-write-kept
+    element-copy-out-kept-2
+    element-write-kept-2
+    array-read-one-if
+    one-if-requires
+    add-end
     add-i
     loop-less
     loop-again

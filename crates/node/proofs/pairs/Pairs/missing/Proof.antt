@@ -1,23 +1,22 @@
 -- At every turn the pairs found so far and those missing of the rest are all that are missing.
 use Prim.Native.Nat.{_-_, _≤_}
-use Rattle.node.proofs.Arrays.{missing-end, missing-on, pairs-here, pairs-past}
-use Rattle.node.specs.View.{pairsOf}
+use Rattle.laws.specs.Views.{firsts}
+use Rattle.node.proofs.Arrays.{missing-end, missing-on, pairs-here, pairs-next, pairs-past}
+use Rattle.node.specs.View.{pairsFrom, pairsOf}
 use Rattle.rules.specs.Ending.{missing}
-use Rattle.rules.specs.Picture.{Pair}
-use Rattle.rules.specs.Run.{left}
 use borrow.Author.Needs.{needs}
-use lib.ListN.{drop, length}
-use mathlib.Core.List.{List, _++_}
-use mathlib.Core.Path.{_≡_, ap}
+use lib.ListN.{drop, length, length-set}
+use mathlib.Core.List.{_++_}
+use mathlib.Core.Path.{_≡_, refl}
 use native.Mathlib.Omega.{arith}
 use Rattle.node.proofs.pairs.Pairs.missing.Statement.{statement}
 use Rattle.node.proofs.pairs.Pairs.missing.Tie as tie
 
 abbrev Inv-loop : tie.InvT-loop
-Inv-loop other self n left₀ i₀ left i = (i ≤ n) × (left .count ≤ i) × (length (self .blocks) ≡ 16) × (length (self .numbers) ≡ 16) × (pairsOf left ++ missing (drop i (pairsOf self)) (pairsOf other) ≡ missing (pairsOf self) (pairsOf other))
+Inv-loop other self n left₀ end₀ i₀ left end i = (i ≤ n) × (end ≤ i) × (length (self .blocks) ≡ 16) × (length (self .numbers) ≡ 16) × (length (left .blocks) ≡ 16) × (length (left .numbers) ≡ 16) × (pairsFrom end (left .blocks) (left .numbers) ++ missing (drop i (pairsOf self)) (pairsOf other) ≡ missing (pairsOf self) (pairsOf other))
 
 abbrev μ-loop : tie.MeasureT-loop
-μ-loop other self n left₀ i₀ left i = n - i
+μ-loop other self n left₀ end₀ i₀ left end i = n - i
 
 len-requires : tie.Need-len-requires Inv-loop μ-loop
 len-requires c κs = search needs
@@ -26,33 +25,32 @@ none-requires : tie.Need-none-requires Inv-loop μ-loop
 none-requires c κs = search needs
 
 loop-holds : tie.Need-loop-holds Inv-loop μ-loop
-loop-holds c =
-    let start = c .before .before in
-    (omega arith, omega (arith, c .none .ensures .1), search needs, search needs, ap (λ (l : List Pair). l ++ missing (pairsOf (start .args .t1)) (pairsOf (start .args .other))) (c .none .ensures .0))
+unfolding pairsFrom firsts
+loop-holds c = (omega arith, omega arith, search needs, search needs, search needs, search needs, refl)
 
-element-copy-out-with-missing : tie.Need-element-copy-out-with-missing Inv-loop μ-loop
-element-copy-out-with-missing c =
-    let at-len = c .before .before .before in
-    omega (arith, at-len .len .ensures, c .loop-test .taken)
+element-copy-out-block : tie.Need-element-copy-out-block Inv-loop μ-loop
+element-copy-out-block c = search needs
 
-element-copy-out-with-missing-2 : tie.Need-element-copy-out-with-missing-2 Inv-loop μ-loop
-element-copy-out-with-missing-2 c =
-    let at-loop-test = c .before in
-    let at-len = at-loop-test .before .before .before in
-    omega (arith, at-len .len .ensures, at-loop-test .loop-test .taken)
+element-copy-out-number : tie.Need-element-copy-out-number Inv-loop μ-loop
+element-copy-out-number c = search needs
 
-with-missing-requires : tie.Need-with-missing-requires Inv-loop μ-loop
-with-missing-requires c κs =
-    let at-loop-test = c .before .before in
-    let at-loop = at-loop-test .before in
-    let at-len = at-loop .before .before in
-    omega (arith, at-len .len .ensures, at-loop-test .loop-test .taken, at-loop .loop .inv .1)
+element-write-left : tie.Need-element-write-left Inv-loop μ-loop
+element-write-left c = search needs
+
+element-write-left-2 : tie.Need-element-write-left-2 Inv-loop μ-loop
+element-write-left-2 c = search needs
+
+lacks-requires : tie.Need-lacks-requires Inv-loop μ-loop
+lacks-requires c κs = search needs
+
+one-if-requires : tie.Need-one-if-requires Inv-loop μ-loop
+one-if-requires c κs = search needs
+
+add-end : tie.Need-add-end Inv-loop μ-loop
+add-end c = search needs
 
 add-i : tie.Need-add-i Inv-loop μ-loop
-add-i c =
-    let at-loop-test = c .before .before .before in
-    let at-len = at-loop-test .before .before .before in
-    omega (arith, at-len .len .ensures, at-loop-test .loop-test .taken)
+add-i c = search needs
 
 loop-less : tie.Need-loop-less Inv-loop μ-loop
 loop-less c = search needs
@@ -60,11 +58,17 @@ loop-less c = search needs
 loop-again : tie.Need-loop-again Inv-loop μ-loop
 unfolding pairsOf
 loop-again c =
-    let at-loop-test = c .before .before .before in
+    let at-lacks = c .before in
+    let at-loop-test = at-lacks .before .before .before in
     let at-loop = at-loop-test .before in
     let at-len = at-loop .before .before in
     let start = at-len .before in
-    let w = at-loop .loop .inv in let s = start .args .t1 in (omega arith, omega (arith, w .1, c .with-missing .ensures .1), w .2, w .3, missing-on (pairsOf (at-loop .loop .left)) (pairsOf (c .with-missing .result)) (pairsOf (start .args .other)) (pairs-here (s .blocks) (s .numbers) (w .2) (w .3) (s .count) (at-loop .loop .i) (omega (arith, at-len .len .ensures, at-loop-test .loop-test .taken))) (c .with-missing .ensures .0) (w .4))
+    let w = at-loop .loop .inv in
+    let s = start .args .t1 in
+    let l = at-loop .loop .left in
+    let end = at-loop .loop .end in
+    let i = at-loop .loop .i in
+    (omega arith, omega (arith, w .1, c .one-if .ensures .1), w .2, w .3, simp length-set (w .4), simp length-set (w .5), missing-on (pairsFrom end (l .blocks) (l .numbers)) _ (pairsOf (start .args .other)) (pairs-here (s .blocks) (s .numbers) (w .2) (w .3) (s .count) i (omega (arith, at-len .len .ensures, at-loop-test .loop-test .taken))) (at-lacks .lacks .ensures) (pairs-next (l .blocks) (l .numbers) (w .4) (w .5) (at-lacks .lacks .result) end _ _ (omega (arith, at-len .len .ensures, at-loop-test .loop-test .taken, w .1)) (c .one-if .ensures .0)) (w .6))
 
 returns : tie.Need-returns Inv-loop μ-loop
 unfolding pairsOf
@@ -72,7 +76,10 @@ returns c =
     let at-loop = c .before in
     let at-len = at-loop .before .before in
     let start = at-len .before in
-    let w = at-loop .loop .inv in let s = start .args .t1 in missing-end (pairsOf (at-loop .loop .left)) (pairsOf (start .args .other)) (pairs-past (s .blocks) (s .numbers) (w .2) (w .3) (s .count) (at-loop .loop .i) (omega (arith, at-len .len .ensures, c .loop-test .left))) (w .4)
+    let w = at-loop .loop .inv in
+    let s = start .args .t1 in
+    let l = at-loop .loop .left in
+    missing-end (pairsFrom (at-loop .loop .end) (l .blocks) (l .numbers)) (pairsOf (start .args .other)) (pairs-past (s .blocks) (s .numbers) (w .2) (w .3) (s .count) (at-loop .loop .i) (omega (arith, at-len .len .ensures, c .loop-test .left))) (w .6)
 
 pub missing-spec : {M : Type 1} → statement M
 missing-spec =
@@ -83,9 +90,13 @@ missing-spec =
     len-requires
     none-requires
     loop-holds
-    element-copy-out-with-missing
-    element-copy-out-with-missing-2
-    with-missing-requires
+    element-copy-out-block
+    element-copy-out-number
+    element-write-left
+    element-write-left-2
+    lacks-requires
+    one-if-requires
+    add-end
     add-i
     loop-less
     loop-again

@@ -55,6 +55,10 @@ abbrev pub freeOf : Free → Option ℕ
 freeOf (frees.Number n) = some n
 freeOf frees.Nothing = none
 
+-- a block that is known to be full: it has no free number, if it is one
+abbrev pub NoneFree : (ℕ → Option ℕ) → ℕ → Type 0
+NoneFree free b = b < 256 → free b ≡ none
+
 abbrev pub renumberingOf : Renumbering → rules.Renumbering
 renumberingOf renumberings.Finished = finished
 renumberingOf (renumberings.Renumbers place tries block old new) = renumbers place tries (pairOf block old) new

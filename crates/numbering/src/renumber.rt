@@ -3,9 +3,9 @@ ghost use mathlib.Core.Path.{_≡_};
 ghost use Prim.Native.Nat.{_<_};
 ghost use Rattle.laws.specs.Lists.{collect};
 ghost use Rattle.rules.specs.Picture.{pairsIn};
-ghost use Rattle.rules.specs.Renumber.{freeNumber, renumber};
+ghost use Rattle.rules.specs.Renumber.{freeNumber, finished, renumber};
 ghost use Rattle.node.specs.View.{pairOf, pairsOf, rowsOf};
-ghost use Rattle.numbering.specs.Marks.{judgedOf, attemptOf, isOffer, renumberingOf};
+ghost use Rattle.numbering.specs.Marks.{NoneFree, judgedOf, attemptOf, freeOf, isOffer, renumberingOf};
 use super::free;
 use super::free::Free;
 use node::entry::NodeEntry;
@@ -13,6 +13,9 @@ use node::pairs::Pairs;
 
 // A pair is offered a number as often as this.
 pub const MAX_TRIES: u8 = 3;
+
+// Above every block: none is known to be full.
+const NO_BLOCK: u16 = 256;
 
 // Nothing is left to renumber, or one pair is: at this place, with these tries, to a new number.
 pub enum Renumbering {
@@ -44,8 +47,36 @@ impl Renumbering {
     }
 }
 
+// The free number of a block. One that is known to be full, to have no free number, is not searched again.
+fn free_for(full: u16, count: usize, entries: [NodeEntry; 63], announced: Pairs, block: u8) -> Free
+    requires { ⌜ NoneFree (freeNumber (collect pairsIn (rowsOf count entries)) (pairsOf announced)) full ⌝ }
+    ensures { λ r. ⌜ freeOf r ≡ freeNumber (collect pairsIn (rowsOf count entries)) (pairsOf announced) block ⌝ }
+{
+    if full == block as u16 {
+        return Free::Nothing;
+    }
+    free::free_number(count, entries, announced, block)
+}
+
+// What became of the pair at one place, and the block that is known to be full.
+struct Attempted {
+    renumbering: Renumbering,
+    full: u16,
+}
+
+// The pair is offered no number.
+fn passed(full: u16) -> Attempted
+    ensures { λ r. ⌜ (renumberingOf (r .renumbering) ≡ finished) × (r .full ≡ full) ⌝ }
+{
+    Attempted {
+        renumbering: Renumbering::Finished,
+        full,
+    }
+}
+
 // What becomes of the pair at one place: it is offered a number if it is bad, a try is left and a number is free.
 fn attempt(
+    full: u16,
     count: usize,
     entries: [NodeEntry; 63],
     announced: Pairs,
@@ -54,25 +85,29 @@ fn attempt(
     tries: u8,
     block: u8,
     number: u8,
-) -> Renumbering
-    ensures { λ r. ⌜ renumberingOf r ≡ attemptOf (freeNumber (collect pairsIn (rowsOf count entries)) (pairsOf announced)) place tries (record { pair = pairOf block number; good = good }) ⌝ }
+) -> Attempted
+    requires { ⌜ NoneFree (freeNumber (collect pairsIn (rowsOf count entries)) (pairsOf announced)) full ⌝ }
+    ensures { λ r. ⌜ (renumberingOf (r .renumbering) ≡ attemptOf (freeNumber (collect pairsIn (rowsOf count entries)) (pairsOf announced)) place tries (record { pair = pairOf block number; good = good })) × NoneFree (freeNumber (collect pairsIn (rowsOf count entries)) (pairsOf announced)) (r .full) ⌝ }
 {
     if good {
-        return Renumbering::Finished;
+        return passed(full);
     }
     if MAX_TRIES <= tries {
-        return Renumbering::Finished;
+        return passed(full);
     }
-    let free = free::free_number(count, entries, announced, block);
+    let free = free_for(full, count, entries, announced, block);
     match free {
-        Free::Number(new) => Renumbering::Renumbers {
-            place,
-            tries: tries + 1,
-            block,
-            old: number,
-            new,
+        Free::Number(new) => Attempted {
+            renumbering: Renumbering::Renumbers {
+                place,
+                tries: tries + 1,
+                block,
+                old: number,
+                new,
+            },
+            full,
         },
-        Free::Nothing => Renumbering::Finished,
+        Free::Nothing => passed(block as u16),
     }
 }
 
@@ -88,10 +123,12 @@ pub fn renumber_from(
     ensures { λ r. ⌜ renumberingOf r ≡ renumber (freeNumber (collect pairsIn (rowsOf count entries)) (pairsOf announced)) place tries (judgedOf (pairsOf announced) good) ⌝ }
 {
     let n = announced.len();
+    let mut full = NO_BLOCK;
     let mut left = tries;
     let mut i = place as usize;
     while i < n {
         let step = attempt(
+            full,
             count,
             entries,
             announced,
@@ -101,9 +138,11 @@ pub fn renumber_from(
             announced.blocks[i],
             announced.numbers[i],
         );
-        if step.is_offer() {
-            return step;
+        let renumbering = step.renumbering;
+        if renumbering.is_offer() {
+            return renumbering;
         }
+        full = step.full;
         left = 0;
         i += 1;
     }

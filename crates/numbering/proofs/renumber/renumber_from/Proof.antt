@@ -5,7 +5,7 @@ use Rattle.node.proofs.Arrays.{pairs-at, pairs-length}
 use Rattle.node.specs.View.{pairOf, pairsOf, rowsOf}
 use Rattle.numbering.proofs.Judging.{judged-here, judged-past}
 use Rattle.numbering.proofs.Offers.{offered, passed}
-use Rattle.numbering.specs.Marks.{isOffer, judgedOf}
+use Rattle.numbering.specs.Marks.{NoneFree, isOffer, judgedOf}
 use Rattle.rules.specs.Picture.{Pair, pairsIn}
 use Rattle.rules.specs.Renumber.{freeNumber, renumber, renumberFrom}
 use borrow.Author.Needs.{needs}
@@ -18,17 +18,17 @@ use Rattle.numbering.proofs.renumber.renumber_from.Statement.{statement
 use Rattle.numbering.proofs.renumber.renumber_from.Tie as tie
 
 abbrev Inv-loop : tie.InvT-loop
-Inv-loop count entries place tries announced good n left₀ i₀ left i = (length good ≡ 16) × (length (announced .blocks) ≡ 16) × (length (announced .numbers) ≡ 16) × (renumberFrom (freeNumber (collect pairsIn (rowsOf count entries)) (pairsOf announced)) i left (drop i (judgedOf (pairsOf announced) good)) ≡ renumber (freeNumber (collect pairsIn (rowsOf count entries)) (pairsOf announced)) place tries (judgedOf (pairsOf announced) good))
+Inv-loop count entries place tries announced good n full₀ left₀ i₀ full left i = (length good ≡ 16) × (length (announced .blocks) ≡ 16) × (length (announced .numbers) ≡ 16) × (renumberFrom (freeNumber (collect pairsIn (rowsOf count entries)) (pairsOf announced)) i left (drop i (judgedOf (pairsOf announced) good)) ≡ renumber (freeNumber (collect pairsIn (rowsOf count entries)) (pairsOf announced)) place tries (judgedOf (pairsOf announced) good)) × NoneFree (freeNumber (collect pairsIn (rowsOf count entries)) (pairsOf announced)) full
 
 abbrev μ-loop : tie.MeasureT-loop
-μ-loop count entries place tries announced good n left₀ i₀ left i = n - i
+μ-loop count entries place tries announced good n full₀ left₀ i₀ full left i = n - i
 
 len-requires : tie.Need-len-requires Inv-loop μ-loop
 len-requires c κs = search needs
 
 loop-holds : tie.Need-loop-holds Inv-loop μ-loop
 unfolding renumber
-loop-holds c = (search needs, search needs, search needs, refl)
+loop-holds c = (search needs, search needs, search needs, refl, λ h. absurd (omega arith))
 
 array-read-attempt : tie.Need-array-read-attempt Inv-loop μ-loop
 array-read-attempt c =
@@ -52,7 +52,7 @@ element-copy-out-attempt-2 c =
     omega (arith, at-len .len .ensures, at-loop-test .loop-test .taken)
 
 attempt-requires : tie.Need-attempt-requires Inv-loop μ-loop
-attempt-requires c κs = search needs
+attempt-requires c κs = c .before .before .before .loop .inv .4
 
 is-offer-requires : tie.Need-is-offer-requires Inv-loop μ-loop
 is-offer-requires c κs = search needs
@@ -66,7 +66,7 @@ returns c =
     let at-loop = at-loop-test .before in
     let at-len = at-loop .before in
     let start = at-len .before in
-    let w = at-loop .loop .inv in let s = start .args .t3 in let n = pairs-length (s .blocks) (s .numbers) (w .1) (w .2) (s .count) in let l : at-loop .loop .i < min (s .count) 16 = omega (arith, at-len .len .ensures, at-loop-test .loop-test .taken) in let h = judged-here (at-loop .loop .i) (pairOf 0 0) false (pairsOf s) (start .args .t4) (omega arith) (omega (arith, w .0)) ∙ ap (λ (a : Pair). record { pair = a; good = getD (start .args .t4) (at-loop .loop .i) false } ∷ drop (at-loop .loop .i + 1) (judgedOf (pairsOf s) (start .args .t4))) (pairs-at (s .blocks) (s .numbers) (w .1) (w .2) (s .count) (at-loop .loop .i) (pairOf 0 0) l) in at-attempt .attempt .ensures ∙ sym (offered (freeNumber (collect pairsIn (rowsOf (start .args .count) (start .args .entries))) (pairsOf (start .args .t3))) (at-loop .loop .i) (at-loop .loop .left) _ _ (sym (ap isOffer (at-attempt .attempt .ensures)) ∙ sym (at-is-offer .is-offer .ensures) ∙ c .if1 .taken)) ∙ ap (renumberFrom (freeNumber (collect pairsIn (rowsOf (start .args .count) (start .args .entries))) (pairsOf (start .args .t3))) (at-loop .loop .i) (at-loop .loop .left)) (sym h) ∙ w .3
+    let w = at-loop .loop .inv in let s = start .args .t3 in let n = pairs-length (s .blocks) (s .numbers) (w .1) (w .2) (s .count) in let l : at-loop .loop .i < min (s .count) 16 = omega (arith, at-len .len .ensures, at-loop-test .loop-test .taken) in let h = judged-here (at-loop .loop .i) (pairOf 0 0) false (pairsOf s) (start .args .t4) (omega arith) (omega (arith, w .0)) ∙ ap (λ (a : Pair). record { pair = a; good = getD (start .args .t4) (at-loop .loop .i) false } ∷ drop (at-loop .loop .i + 1) (judgedOf (pairsOf s) (start .args .t4))) (pairs-at (s .blocks) (s .numbers) (w .1) (w .2) (s .count) (at-loop .loop .i) (pairOf 0 0) l) in at-attempt .attempt .ensures .0 ∙ sym (offered (freeNumber (collect pairsIn (rowsOf (start .args .count) (start .args .entries))) (pairsOf (start .args .t3))) (at-loop .loop .i) (at-loop .loop .left) _ _ (sym (ap isOffer (at-attempt .attempt .ensures .0)) ∙ sym (at-is-offer .is-offer .ensures) ∙ c .if1 .taken)) ∙ ap (renumberFrom (freeNumber (collect pairsIn (rowsOf (start .args .count) (start .args .entries))) (pairsOf (start .args .t3))) (at-loop .loop .i) (at-loop .loop .left)) (sym h) ∙ w .3
 
 add-i : tie.Need-add-i Inv-loop μ-loop
 add-i c =
@@ -86,7 +86,7 @@ loop-again c =
     let at-loop = at-loop-test .before in
     let at-len = at-loop .before in
     let start = at-len .before in
-    let w = at-loop .loop .inv in let s = start .args .t3 in let n = pairs-length (s .blocks) (s .numbers) (w .1) (w .2) (s .count) in let l : at-loop .loop .i < min (s .count) 16 = omega (arith, at-len .len .ensures, at-loop-test .loop-test .taken) in let h = judged-here (at-loop .loop .i) (pairOf 0 0) false (pairsOf s) (start .args .t4) (omega arith) (omega (arith, w .0)) ∙ ap (λ (a : Pair). record { pair = a; good = getD (start .args .t4) (at-loop .loop .i) false } ∷ drop (at-loop .loop .i + 1) (judgedOf (pairsOf s) (start .args .t4))) (pairs-at (s .blocks) (s .numbers) (w .1) (w .2) (s .count) (at-loop .loop .i) (pairOf 0 0) l) in (w .0, w .1, w .2, sym (passed (freeNumber (collect pairsIn (rowsOf (start .args .count) (start .args .entries))) (pairsOf (start .args .t3))) (at-loop .loop .i) (at-loop .loop .left) _ _ (sym (ap isOffer (at-attempt .attempt .ensures)) ∙ sym (at-is-offer .is-offer .ensures) ∙ c .if1 .left)) ∙ ap (renumberFrom (freeNumber (collect pairsIn (rowsOf (start .args .count) (start .args .entries))) (pairsOf (start .args .t3))) (at-loop .loop .i) (at-loop .loop .left)) (sym h) ∙ w .3)
+    let w = at-loop .loop .inv in let s = start .args .t3 in let n = pairs-length (s .blocks) (s .numbers) (w .1) (w .2) (s .count) in let l : at-loop .loop .i < min (s .count) 16 = omega (arith, at-len .len .ensures, at-loop-test .loop-test .taken) in let h = judged-here (at-loop .loop .i) (pairOf 0 0) false (pairsOf s) (start .args .t4) (omega arith) (omega (arith, w .0)) ∙ ap (λ (a : Pair). record { pair = a; good = getD (start .args .t4) (at-loop .loop .i) false } ∷ drop (at-loop .loop .i + 1) (judgedOf (pairsOf s) (start .args .t4))) (pairs-at (s .blocks) (s .numbers) (w .1) (w .2) (s .count) (at-loop .loop .i) (pairOf 0 0) l) in (w .0, w .1, w .2, sym (passed (freeNumber (collect pairsIn (rowsOf (start .args .count) (start .args .entries))) (pairsOf (start .args .t3))) (at-loop .loop .i) (at-loop .loop .left) _ _ (sym (ap isOffer (at-attempt .attempt .ensures .0)) ∙ sym (at-is-offer .is-offer .ensures) ∙ c .if1 .left)) ∙ ap (renumberFrom (freeNumber (collect pairsIn (rowsOf (start .args .count) (start .args .entries))) (pairsOf (start .args .t3))) (at-loop .loop .i) (at-loop .loop .left)) (sym h) ∙ w .3, at-attempt .attempt .ensures .1)
 
 returns-2 : tie.Need-returns-2 Inv-loop μ-loop
 unfolding pairsOf renumberFrom

@@ -1,5 +1,5 @@
 -- Judging in order: one pair at a time, the good ones collected, and the marks that stand for other rows.
-use Prim.Native.Nat.{ℕ, zero, suc, _+_, _<_, _≤_}
+use Prim.Native.Nat.{ℕ, zero, suc, _+_, _<_, _≤_, min}
 use mathlib.Core.Path.{_≡_, refl, sym, _∙_, ap}
 use mathlib.Core.Bool.{Bool, true, false, cond, not, _&&_, _||_}
 use mathlib.Core.List.{List, [], _∷_, _++_, map, append-assoc, append-nil}
@@ -13,6 +13,8 @@ use Rattle.laws.specs.Lists.{any, collect}
 use Rattle.rules.specs.House.{minNumber, maxNumber}
 use Rattle.rules.specs.Picture.{Pair, samePair, holds}
 use Rattle.rules.specs.Renumber.{Judged, isGood, judge, goods}
+use Rattle.node.specs.View.{pairOf, pairsFrom}
+use Rattle.node.proofs.Arrays.{pairs-at, pairs-length}
 use Rattle.numbering.specs.Marks.{orEach, isGoodMarked, judgeMarked, judgedOf}
 
 -- the judged pair at j, and those behind it
@@ -24,17 +26,29 @@ judged-drop j e d (p ∷ ps) [] h k = absurd (not-suc-le-zero k)
 judged-drop zero e d (p ∷ ps) (g ∷ gs) h k = refl
 judged-drop (suc j) e d (p ∷ ps) (g ∷ gs) h k = judged-drop j e d ps gs (le-of-suc-le-suc h) (le-of-suc-le-suc k)
 
-pub judged-here : (j : ℕ) (e : Pair) (d : Bool) (ps : List Pair) (gs : List Bool) → j < length ps → j < length gs
+judged-here : (j : ℕ) (e : Pair) (d : Bool) (ps : List Pair) (gs : List Bool) → j < length ps → j < length gs
     → drop j (judgedOf ps gs) ≡ record { pair = getD ps j e; good = getD gs j d } ∷ drop (j + 1) (judgedOf ps gs)
 judged-here j e d ps gs h k = rw (add-one j) (judged-drop j e d ps gs h k)
 
-pub judged-past : (j : ℕ) (ps : List Pair) (gs : List Bool) → length ps ≤ j → drop j (judgedOf ps gs) ≡ []
+judged-past : (j : ℕ) (ps : List Pair) (gs : List Bool) → length ps ≤ j → drop j (judgedOf ps gs) ≡ []
 unfolding judgedOf
 judged-past zero [] gs h = refl
 judged-past (suc j) [] gs h = refl
 judged-past zero (p ∷ ps) gs h = absurd (not-suc-le-zero h)
 judged-past (suc j) (p ∷ ps) [] h = refl
 judged-past (suc j) (p ∷ ps) (g ∷ gs) h = judged-past j ps gs (le-of-suc-le-suc h)
+
+-- the same where the pairs are those of two arrays
+module _ (bs ns : List ℕ) (h : length bs ≡ 16) (k : length ns ≡ 16) (c i : ℕ) (gs : List Bool) where
+  pub judged-at : i < min c 16 → i < length gs
+      → drop i (judgedOf (pairsFrom c bs ns) gs)
+      ≡ record { pair = pairOf (getD bs i 0) (getD ns i 0); good = getD gs i false } ∷ drop (i + 1) (judgedOf (pairsFrom c bs ns) gs)
+  judged-at l m =
+      judged-here i (pairOf 0 0) false (pairsFrom c bs ns) gs (omega (arith, pairs-length bs ns h k c)) m
+      ∙ ap (λ (a : Pair). record { pair = a; good = getD gs i false } ∷ drop (i + 1) (judgedOf (pairsFrom c bs ns) gs)) (pairs-at bs ns h k c i (pairOf 0 0) l)
+
+  pub judged-end : min c 16 ≤ i → drop i (judgedOf (pairsFrom c bs ns) gs) ≡ []
+  judged-end l = judged-past i (pairsFrom c bs ns) gs (omega (arith, pairs-length bs ns h k c))
 
 judged-few : (ps : List Pair) (gs : List Bool) → length (judgedOf ps gs) ≤ length ps
 unfolding judgedOf

@@ -17,7 +17,7 @@ module _ (free : ℕ → Option ℕ) (place tries : ℕ) (j : Judged) (js : List
   later : Renumbering
   later = renumberFrom free (suc place) 0 js
 
-  pub offered : isOffer (attemptOf free place tries j) ≡ true → renumberFrom free place tries (j ∷ js) ≡ attemptOf free place tries j
+  offered : isOffer (attemptOf free place tries j) ≡ true → renumberFrom free place tries (j ∷ js) ≡ attemptOf free place tries j
   unfolding attemptOf isOffer renumberFrom offer later
   offered h = go (j .good) (ltb tries maxTries) (free (j .pair .block)) h
     where
@@ -28,7 +28,7 @@ module _ (free : ℕ → Option ℕ) (place tries : ℕ) (j : Judged) (js : List
       go false true (some n) h = refl
       go false false o h = clash h refl
 
-  pub passed : isOffer (attemptOf free place tries j) ≡ false → renumberFrom free place tries (j ∷ js) ≡ renumberFrom free (place + 1) 0 js
+  passed : isOffer (attemptOf free place tries j) ≡ false → renumberFrom free place tries (j ∷ js) ≡ renumberFrom free (place + 1) 0 js
   unfolding attemptOf isOffer renumberFrom offer later
   passed h = rw (add-one place) (go (j .good) (ltb tries maxTries) (free (j .pair .block)) h)
     where
@@ -38,6 +38,15 @@ module _ (free : ℕ → Option ℕ) (place tries : ℕ) (j : Judged) (js : List
       go false true none h = refl
       go false true (some n) h = clash refl h
       go false false o h = refl
+
+-- one turn: what became of the pair at hand is the whole, or the rest makes it
+module _ (free : ℕ → Option ℕ) (place tries : ℕ) {js rest : List Judged} {j : Judged} {r whole : Renumbering} (e : js ≡ j ∷ rest)
+    (a : r ≡ attemptOf free place tries j) (w : renumberFrom free place tries js ≡ whole) where
+  pub turn-offered : isOffer r ≡ true → r ≡ whole
+  turn-offered o = a ∙ sym (offered free place tries j rest (sym (ap isOffer a) ∙ o)) ∙ ap (renumberFrom free place tries) (sym e) ∙ w
+
+  pub turn-passed : isOffer r ≡ false → renumberFrom free (place + 1) 0 rest ≡ whole
+  turn-passed o = sym (passed free place tries j rest (sym (ap isOffer a) ∙ o)) ∙ ap (renumberFrom free place tries) (sym e) ∙ w
 
 -- a bad pair that a try is left for
 module _ (free : ℕ → Option ℕ) (place tries : ℕ) (j : Judged) (bad : j .good ≡ false) (left : tries < maxTries) where

@@ -1,17 +1,16 @@
 -- At every turn the pairs found so far and the good ones of the rest are all good ones.
-use Prim.Native.Nat.{_+_, _-_, _<_, _≤_, min}
+use Prim.Native.Nat.{_-_, _<_, _≤_}
 use Rattle.laws.specs.Views.{firsts}
-use Rattle.node.proofs.Arrays.{pairs-at, pairs-length, pairs-next}
-use Rattle.node.specs.View.{pairOf, pairsFrom, pairsOf}
-use Rattle.numbering.proofs.Judging.{goods-end, goods-on, judged-here, judged-past}
+use Rattle.node.proofs.Arrays.{pairs-next}
+use Rattle.node.specs.View.{pairsFrom, pairsOf}
+use Rattle.numbering.proofs.Judging.{goods-end, goods-on, judged-at, judged-end}
 use Rattle.numbering.specs.Marks.{judgedOf}
-use Rattle.rules.specs.Picture.{Pair}
 use Rattle.rules.specs.Renumber.{goods}
 use borrow.Author.Needs.{needs}
 use lib.ListN.{drop, getD, length, length-set}
 use mathlib.Core.Bool.{false}
-use mathlib.Core.List.{_++_, _∷_}
-use mathlib.Core.Path.{_∙_, _≡_, ap, refl}
+use mathlib.Core.List.{_++_}
+use mathlib.Core.Path.{_≡_, refl}
 use native.Mathlib.Omega.{arith}
 use Rattle.numbering.proofs.judge.good_pairs.Statement.{statement}
 use Rattle.numbering.proofs.judge.good_pairs.Tie as tie
@@ -72,9 +71,8 @@ loop-again c =
     let k = at-loop .loop .kept in
     let end = at-loop .loop .end in
     let i = at-loop .loop .i in
-    let n = pairs-length (s .blocks) (s .numbers) (w .3) (w .4) (s .count) in
-    let l : i < min (s .count) 16 = omega (arith, at-len .len .ensures, at-loop-test .loop-test .taken) in
-    (omega arith, omega (arith, w .1, c .one-if .ensures .1), w .2, w .3, w .4, simp length-set (w .5), simp length-set (w .6), goods-on (pairsFrom end (k .blocks) (k .numbers)) _ (judged-here i (pairOf 0 0) false (pairsOf s) g (omega arith) (omega (arith, w .2)) ∙ ap (λ (a : Pair). record { pair = a; good = getD g i false } ∷ drop (i + 1) (judgedOf (pairsOf s) g)) (pairs-at (s .blocks) (s .numbers) (w .3) (w .4) (s .count) i (pairOf 0 0) l)) (pairs-next (k .blocks) (k .numbers) (w .5) (w .6) (getD g i false) end _ _ (omega (arith, w .1)) (c .one-if .ensures .0)) (w .7))
+    let l : i < 16 = omega (arith, at-len .len .ensures, at-loop-test .loop-test .taken) in
+    (omega arith, omega (arith, w .1, c .one-if .ensures .1), w .2, w .3, w .4, simp length-set (w .5), simp length-set (w .6), goods-on (pairsFrom end (k .blocks) (k .numbers)) _ (judged-at (s .blocks) (s .numbers) (w .3) (w .4) (s .count) i g (omega (arith, at-len .len .ensures, at-loop-test .loop-test .taken)) (omega (arith, w .2))) (pairs-next (k .blocks) (k .numbers) (w .5) (w .6) (getD g i false) end _ _ (omega (arith, w .1)) (c .one-if .ensures .0)) (w .7))
 
 returns : tie.Need-returns Inv-loop μ-loop
 unfolding pairsOf
@@ -85,7 +83,7 @@ returns c =
     let w = at-loop .loop .inv in
     let s = start .args .t1 in
     let k = at-loop .loop .kept in
-    goods-end (pairsFrom (at-loop .loop .end) (k .blocks) (k .numbers)) (judged-past (at-loop .loop .i) (pairsOf s) (start .args .t2) (omega (arith, pairs-length (s .blocks) (s .numbers) (w .3) (w .4) (s .count), at-len .len .ensures, c .loop-test .left))) (w .7)
+    goods-end (pairsFrom (at-loop .loop .end) (k .blocks) (k .numbers)) (judged-end (s .blocks) (s .numbers) (w .3) (w .4) (s .count) (at-loop .loop .i) (start .args .t2) (omega (arith, at-len .len .ensures, c .loop-test .left))) (w .7)
 
 pub good-pairs-spec : {M : Type 1} → statement M
 good-pairs-spec =

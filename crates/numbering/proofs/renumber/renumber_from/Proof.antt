@@ -1,17 +1,14 @@
 -- What is left from the place on decides.
-use Prim.Native.Nat.{_+_, _-_, _<_, min}
+use Prim.Native.Nat.{_-_}
 use Rattle.laws.specs.Lists.{collect}
-use Rattle.node.proofs.Arrays.{pairs-at, pairs-length}
-use Rattle.node.specs.View.{pairOf, pairsOf, rowsOf}
-use Rattle.numbering.proofs.Judging.{judged-here, judged-past}
-use Rattle.numbering.proofs.Offers.{offered, passed}
-use Rattle.numbering.specs.Marks.{NoneFree, isOffer, judgedOf}
-use Rattle.rules.specs.Picture.{Pair, pairsIn}
+use Rattle.node.specs.View.{pairsOf, rowsOf}
+use Rattle.numbering.proofs.Judging.{judged-at, judged-end}
+use Rattle.numbering.proofs.Offers.{turn-offered, turn-passed}
+use Rattle.numbering.specs.Marks.{NoneFree, judgedOf}
+use Rattle.rules.specs.Picture.{pairsIn}
 use Rattle.rules.specs.Renumber.{freeNumber, renumber, renumberFrom}
 use borrow.Author.Needs.{needs}
-use lib.ListN.{drop, getD, length}
-use mathlib.Core.Bool.{false}
-use mathlib.Core.List.{_∷_}
+use lib.ListN.{drop, length}
 use mathlib.Core.Path.{_∙_, _≡_, ap, refl, sym}
 use native.Mathlib.Omega.{arith}
 use Rattle.numbering.proofs.renumber.renumber_from.Statement.{statement}
@@ -66,7 +63,11 @@ returns c =
     let at-loop = at-loop-test .before in
     let at-len = at-loop .before in
     let start = at-len .before in
-    let w = at-loop .loop .inv in let s = start .args .t3 in let n = pairs-length (s .blocks) (s .numbers) (w .1) (w .2) (s .count) in let l : at-loop .loop .i < min (s .count) 16 = omega (arith, at-len .len .ensures, at-loop-test .loop-test .taken) in let h = judged-here (at-loop .loop .i) (pairOf 0 0) false (pairsOf s) (start .args .t4) (omega arith) (omega (arith, w .0)) ∙ ap (λ (a : Pair). record { pair = a; good = getD (start .args .t4) (at-loop .loop .i) false } ∷ drop (at-loop .loop .i + 1) (judgedOf (pairsOf s) (start .args .t4))) (pairs-at (s .blocks) (s .numbers) (w .1) (w .2) (s .count) (at-loop .loop .i) (pairOf 0 0) l) in at-attempt .attempt .ensures .0 ∙ sym (offered (freeNumber (collect pairsIn (rowsOf (start .args .count) (start .args .entries))) (pairsOf (start .args .t3))) (at-loop .loop .i) (at-loop .loop .left) _ _ (sym (ap isOffer (at-attempt .attempt .ensures .0)) ∙ sym (at-is-offer .is-offer .ensures) ∙ c .if1 .taken)) ∙ ap (renumberFrom (freeNumber (collect pairsIn (rowsOf (start .args .count) (start .args .entries))) (pairsOf (start .args .t3))) (at-loop .loop .i) (at-loop .loop .left)) (sym h) ∙ w .3
+    let w = at-loop .loop .inv in
+    let s = start .args .t3 in
+    let free = freeNumber (collect pairsIn (rowsOf (start .args .count) (start .args .entries))) (pairsOf s) in
+    let h = judged-at (s .blocks) (s .numbers) (w .1) (w .2) (s .count) (at-loop .loop .i) (start .args .t4) (omega (arith, at-len .len .ensures, at-loop-test .loop-test .taken)) (omega (arith, at-len .len .ensures, at-loop-test .loop-test .taken, w .0)) in
+    turn-offered free (at-loop .loop .i) (at-loop .loop .left) h (at-attempt .attempt .ensures .0) (w .3) (sym (at-is-offer .is-offer .ensures) ∙ c .if1 .taken)
 
 add-i : tie.Need-add-i Inv-loop μ-loop
 add-i c =
@@ -86,7 +87,11 @@ loop-again c =
     let at-loop = at-loop-test .before in
     let at-len = at-loop .before in
     let start = at-len .before in
-    let w = at-loop .loop .inv in let s = start .args .t3 in let n = pairs-length (s .blocks) (s .numbers) (w .1) (w .2) (s .count) in let l : at-loop .loop .i < min (s .count) 16 = omega (arith, at-len .len .ensures, at-loop-test .loop-test .taken) in let h = judged-here (at-loop .loop .i) (pairOf 0 0) false (pairsOf s) (start .args .t4) (omega arith) (omega (arith, w .0)) ∙ ap (λ (a : Pair). record { pair = a; good = getD (start .args .t4) (at-loop .loop .i) false } ∷ drop (at-loop .loop .i + 1) (judgedOf (pairsOf s) (start .args .t4))) (pairs-at (s .blocks) (s .numbers) (w .1) (w .2) (s .count) (at-loop .loop .i) (pairOf 0 0) l) in (w .0, w .1, w .2, sym (passed (freeNumber (collect pairsIn (rowsOf (start .args .count) (start .args .entries))) (pairsOf (start .args .t3))) (at-loop .loop .i) (at-loop .loop .left) _ _ (sym (ap isOffer (at-attempt .attempt .ensures .0)) ∙ sym (at-is-offer .is-offer .ensures) ∙ c .if1 .left)) ∙ ap (renumberFrom (freeNumber (collect pairsIn (rowsOf (start .args .count) (start .args .entries))) (pairsOf (start .args .t3))) (at-loop .loop .i) (at-loop .loop .left)) (sym h) ∙ w .3, at-attempt .attempt .ensures .1)
+    let w = at-loop .loop .inv in
+    let s = start .args .t3 in
+    let free = freeNumber (collect pairsIn (rowsOf (start .args .count) (start .args .entries))) (pairsOf s) in
+    let h = judged-at (s .blocks) (s .numbers) (w .1) (w .2) (s .count) (at-loop .loop .i) (start .args .t4) (omega (arith, at-len .len .ensures, at-loop-test .loop-test .taken)) (omega (arith, at-len .len .ensures, at-loop-test .loop-test .taken, w .0)) in
+    (w .0, w .1, w .2, turn-passed free (at-loop .loop .i) (at-loop .loop .left) h (at-attempt .attempt .ensures .0) (w .3) (sym (at-is-offer .is-offer .ensures) ∙ c .if1 .left), at-attempt .attempt .ensures .1)
 
 returns-2 : tie.Need-returns-2 Inv-loop μ-loop
 unfolding pairsOf renumberFrom
@@ -94,7 +99,10 @@ returns-2 c =
     let at-loop = c .before in
     let at-len = at-loop .before in
     let start = at-len .before in
-    let w = at-loop .loop .inv in let s = start .args .t3 in ap (renumberFrom (freeNumber (collect pairsIn (rowsOf (start .args .count) (start .args .entries))) (pairsOf (start .args .t3))) (at-loop .loop .i) (at-loop .loop .left)) (sym (judged-past (at-loop .loop .i) (pairsOf s) (start .args .t4) (omega (arith, pairs-length (s .blocks) (s .numbers) (w .1) (w .2) (s .count), at-len .len .ensures, c .loop-test .left)))) ∙ w .3
+    let w = at-loop .loop .inv in
+    let s = start .args .t3 in
+    let free = freeNumber (collect pairsIn (rowsOf (start .args .count) (start .args .entries))) (pairsOf s) in
+    ap (renumberFrom free (at-loop .loop .i) (at-loop .loop .left)) (sym (judged-end (s .blocks) (s .numbers) (w .1) (w .2) (s .count) (at-loop .loop .i) (start .args .t4) (omega (arith, at-len .len .ensures, c .loop-test .left)))) ∙ w .3
 
 pub renumber-from-spec : {M : Type 1} → statement M
 renumber-from-spec =

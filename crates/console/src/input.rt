@@ -1,5 +1,7 @@
 // Lines of standard input.
-ghost use Prim.Native.Nat.{_≤_};
+ghost use mathlib.Core.Path.{_≡_};
+ghost use Prim.Native.Nat.{_+_, _≤_, min};
+ghost use Rattle.console.specs.Lines.{maxLine, unread, keptAt, Filled, NextLine};
 use libc::STDIN_FILENO;
 use script::digits;
 
@@ -24,7 +26,9 @@ pub struct Line {
 }
 
 // Byte number `seen` of a line, counted from 0, where the line has room for it; how many are seen then, at most one more than fit.
-fn store(line: &mut [u8; MAX_LINE], seen: usize, byte: u8) -> usize {
+fn store(line: &mut [u8; MAX_LINE], seen: usize, byte: u8) -> usize
+    ensures { λ r. ⌜ (r ≡ min (seen + 1) (maxLine + 1)) × (now (line .exit) ≡ keptAt (now (line .entry)) seen byte) ⌝ }
+{
     if MAX_LINE <= seen {
         return MAX_LINE + 1;
     }
@@ -34,12 +38,16 @@ fn store(line: &mut [u8; MAX_LINE], seen: usize, byte: u8) -> usize {
 
 impl Input {
     // Nothing read yet.
-    pub fn new() -> Self {
+    pub fn new() -> Self
+        ensures { λ r. ⌜ r ≡ unread ⌝ }
+    {
         Input { from: 0, to: 0 }
     }
 
-    // With something to use, unless the input has ended.
-    fn filled(self, chunk: &mut [u8; CHUNK]) -> Input {
+    // With something to use, unless the input has ended. The bytes that a read delivers are open: they come from the system.
+    fn filled(self, chunk: &mut [u8; CHUNK]) -> Input
+        ensures { λ r. ⌜ Filled self (now (chunk .entry)) r (now (chunk .exit)) ⌝ }
+    {
         if self.from < self.to {
             return self;
         }
@@ -50,11 +58,15 @@ impl Input {
         }
     }
 
-    // The next line into `line`. A line without LF at the input's end counts where it has a byte.
-    pub fn line(self, chunk: &mut [u8; CHUNK], line: &mut [u8; MAX_LINE]) -> Line {
+    // The next line into `line`. A line without LF at the input's end counts where it has a byte. What the system delivers meanwhile
+    // is open, and all else follows from it.
+    pub fn line(self, chunk: &mut [u8; CHUNK], line: &mut [u8; MAX_LINE]) -> Line
+        ensures { λ r. ⌜ NextLine self (now (chunk .entry)) (now (line .entry)) r (now (chunk .exit)) (now (line .exit)) ⌝ }
+    {
         let mut input = self;
         let mut seen = 0;
         let mut length = 0;
+        // A loop has to end; no line is as long as this.
         let mut turns = u64::MAX;
         while 0 < turns {
             turns -= 1;

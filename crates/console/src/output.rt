@@ -1,6 +1,12 @@
 // Standard output.
 ghost use mathlib.Core.Path.{_≡_};
-ghost use Prim.Native.Nat.{_≤_};
+ghost use Prim.Native.Nat.{_≤_, _<_};
+ghost use lib.ListN.{length};
+ghost use mathlib.Core.Bool.{true, false};
+ghost use mathlib.Core.List.{[], _∷_};
+ghost use Rattle.laws.specs.Lists.{collect};
+ghost use Rattle.console.specs.Puts.{space, empty, Puts};
+ghost use Rattle.console.specs.Spelling.{lf, lined, hexOf, hexPairOf, widthOf, decimalOf, valueOf, filled};
 use libc::STDOUT_FILENO;
 use script::digits;
 
@@ -9,9 +15,6 @@ pub const SPACE: usize = 65536;
 
 const LF: u8 = 10;
 
-// The digits of the largest number.
-const MAX_DIGITS: usize = 20;
-
 // How many bytes wait to be written, and whether a write failed.
 pub struct Output {
     pub waiting: usize,
@@ -19,7 +22,9 @@ pub struct Output {
 }
 
 // Writes the first n bytes; false where a write fails or there are fewer.
-fn write_first(text: &[u8], n: usize) -> bool {
+fn write_first(text: &[u8], n: usize) -> bool
+    ensures { λ r. ⌜ (length (now (text .entry)) < n → r ≡ false) ⌝ }
+{
     if text.len() < n {
         return false;
     }
@@ -28,16 +33,19 @@ fn write_first(text: &[u8], n: usize) -> bool {
 
 impl Output {
     // Nothing waits.
-    pub fn new() -> Self {
+    pub fn new() -> Self
+        ensures { λ r. ⌜ r ≡ empty ⌝ }
+    {
         Output {
             waiting: 0,
             closed: false,
         }
     }
 
-    // With nothing waiting: written, unless a write failed before.
+    // With nothing waiting: written, unless a write failed before. Whether this one fails is open where it can be made: that
+    // depends on the system.
     pub fn drained(self, text: &[u8; SPACE]) -> Output
-        ensures { λ r. ⌜ r .waiting ≡ 0 ⌝ }
+        ensures { λ r. ⌜ (r .waiting ≡ 0) × (self .closed ≡ true → r .closed ≡ true) × (space < self .waiting → r .closed ≡ true) ⌝ }
     {
         let n = self.waiting;
         if self.closed {
@@ -52,8 +60,10 @@ impl Output {
         }
     }
 
-    // One byte more.
-    pub fn byte(self, text: &mut [u8; SPACE], byte: u8) -> Output {
+    // One byte more. Where it finds the buffer full, that is written out first, and whether the write fails is open.
+    pub fn byte(self, text: &mut [u8; SPACE], byte: u8) -> Output
+        ensures { λ r. ⌜ Puts self (now (text .entry)) (byte ∷ []) r (now (text .exit)) ⌝ }
+    {
         let at = self.waiting;
         if at < SPACE {
             text[at] = byte;
@@ -71,7 +81,9 @@ impl Output {
     }
 
     // Bytes as they are.
-    pub fn bytes(self, text: &mut [u8; SPACE], bytes: &[u8]) -> Output {
+    pub fn bytes(self, text: &mut [u8; SPACE], bytes: &[u8]) -> Output
+        ensures { λ r. ⌜ Puts self (now (text .entry)) (now (bytes .entry)) r (now (text .exit)) ⌝ }
+    {
         let mut next = self;
         let mut i = 0;
         while i < bytes.len() {
@@ -82,12 +94,24 @@ impl Output {
     }
 
     // The end of a line.
-    pub fn line_end(self, text: &mut [u8; SPACE]) -> Output {
+    pub fn line_end(self, text: &mut [u8; SPACE]) -> Output
+        ensures { λ r. ⌜ Puts self (now (text .entry)) (lf ∷ []) r (now (text .exit)) ⌝ }
+    {
         self.byte(text, LF)
     }
 
+    // Bytes, and the end of a line.
+    pub fn line(self, text: &mut [u8; SPACE], bytes: &[u8]) -> Output
+        ensures { λ r. ⌜ Puts self (now (text .entry)) (lined (now (bytes .entry))) r (now (text .exit)) ⌝ }
+    {
+        let next = self.bytes(text, bytes);
+        next.line_end(text)
+    }
+
     // A number in decimal.
-    pub fn decimal(self, text: &mut [u8; SPACE], n: usize) -> Output {
+    pub fn decimal(self, text: &mut [u8; SPACE], n: usize) -> Output
+        ensures { λ r. ⌜ Puts self (now (text .entry)) (decimalOf n) r (now (text .exit)) ⌝ }
+    {
         let mut spelled = [0u8; 20];
         let k = io::decimal(n as u64, &mut spelled);
         self.bytes(text, &spelled[..k])
@@ -95,28 +119,29 @@ impl Output {
 
     // How many digits a number has in decimal.
     pub fn decimal_width(n: usize) -> usize
-        ensures { λ r. ⌜ r ≤ 20 ⌝ }
+        ensures { λ r. ⌜ (r ≡ widthOf n) × (r ≤ 20) ⌝ }
     {
         let mut rest = n / 10;
         let mut digits = 1;
         while 0 < rest {
             rest /= 10;
             digits += 1;
-            if digits == MAX_DIGITS {
-                return digits;
-            }
         }
         digits
     }
 
     // A byte as two hexadecimal digits.
-    pub fn hex(self, text: &mut [u8; SPACE], byte: u8) -> Output {
+    pub fn hex(self, text: &mut [u8; SPACE], byte: u8) -> Output
+        ensures { λ r. ⌜ Puts self (now (text .entry)) (hexOf byte) r (now (text .exit)) ⌝ }
+    {
         let high = self.byte(text, digits::glyph(byte / 16));
         high.byte(text, digits::glyph(byte % 16))
     }
 
     // Bytes in hexadecimal, with no blank between.
-    pub fn hex_bytes(self, text: &mut [u8; SPACE], bytes: &[u8]) -> Output {
+    pub fn hex_bytes(self, text: &mut [u8; SPACE], bytes: &[u8]) -> Output
+        ensures { λ r. ⌜ Puts self (now (text .entry)) (collect hexOf (now (bytes .entry))) r (now (text .exit)) ⌝ }
+    {
         let mut next = self;
         let mut i = 0;
         while i < bytes.len() {
@@ -127,13 +152,17 @@ impl Output {
     }
 
     // An address or another two-byte number.
-    pub fn hex_pair(self, text: &mut [u8; SPACE], n: u16) -> Output {
+    pub fn hex_pair(self, text: &mut [u8; SPACE], n: u16) -> Output
+        ensures { λ r. ⌜ Puts self (now (text .entry)) (hexPairOf n) r (now (text .exit)) ⌝ }
+    {
         let high = self.hex(text, (n / 256) as u8);
         high.hex(text, (n % 256) as u8)
     }
 
     // A value: two hexadecimal digits for b, four for w, decimal for anything else.
-    fn value(self, text: &mut [u8; SPACE], kind: u8, value: usize) -> Output {
+    fn value(self, text: &mut [u8; SPACE], kind: u8, value: usize) -> Output
+        ensures { λ r. ⌜ Puts self (now (text .entry)) (valueOf kind value) r (now (text .exit)) ⌝ }
+    {
         match kind {
             b'b' => self.hex(text, (value % 256) as u8),
             b'w' => self.hex_pair(text, (value % 65536) as u16),
@@ -142,7 +171,9 @@ impl Output {
     }
 
     // A template with the values in it, from the first on: %d stands for one in decimal, %b for two hexadecimal digits, %w for four.
-    pub fn form(self, text: &mut [u8; SPACE], template: &[u8], values: &[usize]) -> Output {
+    pub fn form(self, text: &mut [u8; SPACE], template: &[u8], values: &[usize]) -> Output
+        ensures { λ r. ⌜ Puts self (now (text .entry)) (filled (now (template .entry)) (now (values .entry))) r (now (text .exit)) ⌝ }
+    {
         let mut next = self;
         let mut used = 0;
         let mut i = 0;

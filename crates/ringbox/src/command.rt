@@ -1,15 +1,14 @@
 // The commands of a ring script.
 use script::arguments::ANY;
 use script::arguments::Argument;
-use script::arguments::TOO_LONG;
 use script::arguments::UNDERSTOOD;
 use script::arguments::UNKNOWN_WORD;
 use script::words;
 
-// The longest record that a line can hold, and the most order room.
+// The longest record that a line can hold, and the most order room, which is lent at the start.
 pub const MAX_RECORD: usize = 8192;
 
-pub const MAX_ROOM: u32 = 8192;
+pub const MAX_ROOM: usize = 8192;
 
 // A command with its arguments; the bytes of a record stand in a buffer beside it.
 pub enum Command {
@@ -42,7 +41,7 @@ fn fresh(line: &[u8], at: usize) -> Command {
 }
 
 fn room(line: &[u8], at: usize) -> Command {
-    let n = Argument::from(at).decimal(line, MAX_ROOM);
+    let n = Argument::from(at).decimal(line, MAX_ROOM as u32);
     let end = n.end(line);
     if end.reason != UNDERSTOOD {
         return Command::NotUnderstood(end.reason);

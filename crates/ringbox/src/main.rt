@@ -9,21 +9,19 @@ ghost use Rattle.registry.specs.View.{viewOf};
 ghost use Rattle.registry.specs.Outcome.{Reached};
 use command::Command;
 use command::MAX_RECORD;
+use command::MAX_ROOM;
 use console::input::CHUNK;
 use console::input::Input;
 use console::input::MAX_LINE;
 use console::output::Output;
 use console::output::SPACE;
-use console::remarks;
-use console::remarks::LineKind;
 use registry::image::RegistryImage;
+use remarks::LineKind;
 use script::arguments::TOO_LONG;
 use script::numbers::smaller;
 
-// L of the picture at the start, and the order room.
+// L of the picture at the start.
 const FIRST_SIZE: usize = 12;
-
-const FIRST_ROOM: usize = 8192;
 
 // The picture, the order room that is lent, and what is written.
 struct Bench {
@@ -262,7 +260,7 @@ fn turn(
     line: &[u8; MAX_LINE],
     length: usize,
     record: &mut [u8; MAX_RECORD],
-    orders: &mut [u8; FIRST_ROOM],
+    orders: &mut [u8; MAX_ROOM],
 ) -> Bench
     requires { ⌜ Reached (viewOf (bench .picture)) ⌝ }
     ensures { λ r. ⌜ Reached (viewOf (r .picture)) ⌝ }
@@ -283,12 +281,12 @@ fn play() {
     let mut line = [0u8; MAX_LINE];
     let mut text = [0u8; SPACE];
     let mut record = [0u8; MAX_RECORD];
-    let mut orders = [0u8; FIRST_ROOM];
+    let mut orders = [0u8; MAX_ROOM];
     let made = RegistryImage::fresh(FIRST_SIZE);
     let picture = made.picture;
     let mut bench = Bench {
         picture,
-        room: FIRST_ROOM,
+        room: MAX_ROOM,
         output: Output::new(),
     };
     let mut input = Input::new();

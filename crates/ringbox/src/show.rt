@@ -4,7 +4,6 @@ use closing::state::OFF;
 use closing::state::OK;
 use console::output::Output;
 use console::output::SPACE;
-use console::remarks;
 use listing::find::Lookup;
 use listing::flat::Listing;
 use listing::flat::MAX_LISTED;

@@ -12,10 +12,9 @@ use console::input::Input;
 use console::input::MAX_LINE;
 use console::output::Output;
 use console::output::SPACE;
-use console::remarks;
-use console::remarks::LineKind;
 use reassembly::JoinAnswer;
 use reassembly::Reassembly;
+use remarks::LineKind;
 use script::arguments::TOO_LONG;
 use script::numbers::smaller;
 

@@ -1,9 +1,13 @@
 // What both programs say of a line: a comment, a line that is not understood, a refusal.
+ghost use mathlib.Core.Path.{_≡_};
 ghost use Prim.Native.Nat.{_≤_};
 ghost use lib.ListN.{length};
-use super::input::MAX_LINE;
-use super::output::Output;
-use super::output::SPACE;
+ghost use Rattle.console.specs.Puts.{Puts};
+ghost use Rattle.console.specs.Spelling.{lined};
+ghost use Rattle.remarks.specs.Remarks.{kindOf, whyOf, toldOf, shownOf, spacedOf, notUnderstood, recordMeans, telegramMeans, refusalOf};
+use console::input::MAX_LINE;
+use console::output::Output;
+use console::output::SPACE;
 use script::arguments::DOES_NOT_FIT;
 use script::arguments::NO_DECIMAL;
 use script::arguments::NO_HEX;
@@ -18,6 +22,9 @@ use script::words;
 // How much of a too long line is written back.
 const SHOWN: usize = 64;
 
+// The refusals from this number on are of telegrams.
+const FIRST_OF_TELEGRAMS: u8 = 10;
+
 // What a line is, by its first character.
 pub enum LineKind {
     Remark,
@@ -25,7 +32,10 @@ pub enum LineKind {
     Offer,
 }
 
-pub fn kind_of(line: &[u8]) -> LineKind {
+// The kind of a line.
+pub fn kind_of(line: &[u8]) -> LineKind
+    ensures { λ r. ⌜ r ≡ kindOf (now (line .entry)) ⌝ }
+{
     if line.len() == 0 {
         return LineKind::Remark;
     }
@@ -37,16 +47,10 @@ pub fn kind_of(line: &[u8]) -> LineKind {
     }
 }
 
-impl Output {
-    // Bytes, and the end of a line.
-    pub fn line(self, text: &mut [u8; SPACE], bytes: &[u8]) -> Output {
-        let next = self.bytes(text, bytes);
-        next.line_end(text)
-    }
-}
-
 // The words of a reason.
-fn why(output: Output, text: &mut [u8; SPACE], reason: u8) -> Output {
+fn why(output: Output, text: &mut [u8; SPACE], reason: u8) -> Output
+    ensures { λ r. ⌜ Puts output (now (text .entry)) (lined (whyOf reason)) r (now (text .exit)) ⌝ }
+{
     match reason {
         UNKNOWN_WORD => output.line(text, b"unknown word"),
         WORD_MISSING => output.line(text, b"a word is missing"),
@@ -61,7 +65,9 @@ fn why(output: Output, text: &mut [u8; SPACE], reason: u8) -> Output {
 }
 
 // The reason that is told: also where the comment would be too long.
-fn told(line: &[u8], reason: u8) -> u8 {
+fn told(line: &[u8], reason: u8) -> u8
+    ensures { λ r. ⌜ r ≡ toldOf (now (line .entry)) reason ⌝ }
+{
     if MAX_LINE - 2 < line.len() {
         return TOO_LONG;
     }
@@ -70,7 +76,7 @@ fn told(line: &[u8], reason: u8) -> u8 {
 
 // How much of the line is written back.
 fn shown(line: &[u8], reason: u8) -> usize
-    ensures { λ r. ⌜ r ≤ length (now (line .entry)) ⌝ }
+    ensures { λ r. ⌜ (r ≡ shownOf (now (line .entry)) reason) × (r ≤ length (now (line .entry))) ⌝ }
 {
     let all = line.len();
     if reason != TOO_LONG {
@@ -83,7 +89,9 @@ fn shown(line: &[u8], reason: u8) -> usize
 }
 
 // A line that is no command, as a comment, and why. Of a too long one only the start is written.
-pub fn not_understood(output: Output, text: &mut [u8; SPACE], line: &[u8], reason: u8) -> Output {
+pub fn not_understood(output: Output, text: &mut [u8; SPACE], line: &[u8], reason: u8) -> Output
+    ensures { λ r. ⌜ Puts output (now (text .entry)) (notUnderstood (now (line .entry)) reason) r (now (text .exit)) ⌝ }
+{
     let mark = output.byte(text, b'#');
     let why_not = told(line, reason);
     let end = shown(line, why_not);
@@ -93,7 +101,9 @@ pub fn not_understood(output: Output, text: &mut [u8; SPACE], line: &[u8], reaso
 }
 
 // A blank and bytes, or nothing where there are none, and the end of a line.
-fn shown_line(output: Output, text: &mut [u8; SPACE], bytes: &[u8]) -> Output {
+fn shown_line(output: Output, text: &mut [u8; SPACE], bytes: &[u8]) -> Output
+    ensures { λ r. ⌜ Puts output (now (text .entry)) (lined (spacedOf (now (bytes .entry)))) r (now (text .exit)) ⌝ }
+{
     if bytes.len() == 0 {
         return output.line_end(text);
     }
@@ -102,16 +112,21 @@ fn shown_line(output: Output, text: &mut [u8; SPACE], bytes: &[u8]) -> Output {
 }
 
 // A refusal: its number and what that means.
-pub fn refusal(output: Output, text: &mut [u8; SPACE], number: u8) -> Output {
+pub fn refusal(output: Output, text: &mut [u8; SPACE], number: u8) -> Output
+    ensures { λ r. ⌜ Puts output (now (text .entry)) (refusalOf number) r (now (text .exit)) ⌝ }
+{
     let values = [number as usize];
     let next = output.form(text, b"! %d  ", &values);
-    if number < 10 {
+    if number < FIRST_OF_TELEGRAMS {
         return of_record(next, text, number);
     }
     of_telegram(next, text, number)
 }
 
-fn of_record(output: Output, text: &mut [u8; SPACE], number: u8) -> Output {
+// What a record is refused for.
+fn of_record(output: Output, text: &mut [u8; SPACE], number: u8) -> Output
+    ensures { λ r. ⌜ Puts output (now (text .entry)) (lined (recordMeans number)) r (now (text .exit)) ⌝ }
+{
     match number {
         1 => output.line(text, b"order room below 512 bytes"),
         2 => output.line(text, b"record malformed"),
@@ -125,7 +140,10 @@ fn of_record(output: Output, text: &mut [u8; SPACE], number: u8) -> Output {
     }
 }
 
-fn of_telegram(output: Output, text: &mut [u8; SPACE], number: u8) -> Output {
+// What a telegram is refused for.
+fn of_telegram(output: Output, text: &mut [u8; SPACE], number: u8) -> Output
+    ensures { λ r. ⌜ Puts output (now (text .entry)) (lined (telegramMeans number)) r (now (text .exit)) ⌝ }
+{
     match number {
         10 => output.line(text, b"L is not 12 to 45"),
         11 => output.line(text, b"payload above 65535 bytes"),

@@ -1,0 +1,5 @@
+pub mod Texts
+pub mod Puts
+pub mod Putting
+pub mod Spelling
+pub mod Lines

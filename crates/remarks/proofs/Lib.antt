@@ -1,0 +1,3 @@
+-- Laws that the functions' proofs use, and values worked out.
+pub mod Tables
+pub mod Examples

@@ -78,22 +78,6 @@ pub fn tell_entries(
     0
 }
 
-// The entry of a node whose address is kept: LISTED, or SETTING with its renumbering.
-pub fn registered(address: LogicalNodeAddress, kept: Pairs, step: Renumbering, bad: u8) -> NodeEntry
-    ensures { λ r. ⌜ _≡_ {A = Row} (rowOf r) (record { status = statusAfter (address .0) (pairsOf kept) (renumberingOf step); bad = bad; silences = 0 }) ⌝ }
-{
-    match step {
-        Renumbering::Finished => NodeEntry::keeping(LISTED, address, kept, 0, 0, bad),
-        Renumbering::Renumbers {
-            place,
-            tries,
-            block: _,
-            old: _,
-            new: _,
-        } => NodeEntry::keeping(SETTING, address, kept, place, tries, bad),
-    }
-}
-
 // The SET of a renumbering, to the address that is kept.
 pub fn write_renumbering(
     out: &mut [u8],

@@ -10,6 +10,7 @@ ghost use Rattle.node.specs.View.{rowOf, rowsOf};
 ghost use Rattle.entries.specs.Tests.{isShort};
 use node::entry::MAX_SILENCES;
 use node::entry::NodeEntry;
+use node::tests::either;
 
 // A question is open; a node is SILENT; a SILENT node counts fewer silences than the most.
 pub struct Outlook {
@@ -26,16 +27,6 @@ fn is_short(entry: NodeEntry) -> bool
         return entry.silences < MAX_SILENCES;
     }
     false
-}
-
-// One of the two.
-pub(crate) fn either(a: bool, b: bool) -> bool
-    ensures { λ r. ⌜ r ≡ a || b ⌝ }
-{
-    if a {
-        return true;
-    }
-    b
 }
 
 impl Outlook {

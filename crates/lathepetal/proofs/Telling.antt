@@ -3,16 +3,10 @@ use Prim.Native.Nat.{ℕ}
 use mathlib.Core.Path.{_≡_, refl, ap, _∙_}
 use mathlib.Core.Bool.{Bool, true, false, cond}
 use mathlib.Core.List.{List}
-use lib.ListN.{length}
 use Rattle.rules.specs.Picture.{legalSize, freshNumber}
-use Rattle.rules.specs.Run.{Outcome, refused, taken, numberOf, written}
 use Rattle.rules.specs.Telegram as rules
-use Rattle.registry.specs.declared.image.RegistryImage.{RegistryImage}
-use Rattle.registry.specs.declared.record.Recorded.{Recorded}
 use Rattle.registry.specs.declared.image.MakeAnswer.the-variants as makes
 use Rattle.registry.specs.View.{makeNumberOf, makeAnswer}
-use Rattle.registry.specs.Outcome as registry
-use Rattle.registry.specs.Outcome.{answerNumberOf, answerLengthOf, answerOf, Handed, handed, expected}
 use Rattle.reassembly.specs.declared.Reassembly.{Reassembly}
 use Rattle.reassembly.specs.declared.Joined.{Joined}
 use Rattle.segmentation.specs.declared.CountAnswer.{CountAnswer}
@@ -22,7 +16,7 @@ use Rattle.reassembly.specs.Answers as reassembly
 use Rattle.segmentation.specs.Answers.{countNumberOf, countValueOf, countAnswer, cutNumberOf, cutLengthOf}
 use Rattle.reassembly.specs.Answers.{joinNumberOf, joinMsgIdOf, joinLengthOf, joinAnswer}
 use Rattle.transport.proofs.Promises.{promises}
-use Rattle.lathepetal.specs.Numbers.{Does, Cuts, Joins, completeOf, complete}
+use Rattle.lathepetal.specs.Numbers.{Cuts, Joins, completeOf, complete}
 
 -- a picture made for L
 made-by : (b : Bool) → makeNumberOf (cond b makes.Made (makes.Refused 10)) ≡ cond b 0 10
@@ -32,31 +26,6 @@ made-by false = refl
 pub made : (l : ℕ) → makeNumberOf (makeAnswer l) ≡ freshNumber l
 unfolding makeAnswer freshNumber
 made l = made-by (legalSize l)
-
--- a record
-number-told : (o : Outcome) → answerNumberOf (answerOf o) ≡ numberOf o
-unfolding numberOf
-number-told (refused n) = refl
-number-told (taken q os) = refl
-
-length-told : (o : Outcome) → answerLengthOf (answerOf o) ≡ length (written o)
-unfolding written
-length-told (refused n) = refl
-length-told (taken q os) = refl
-
-pub does : {came : RegistryImage} {o : Outcome} {before after : List ℕ} {r : Recorded} {number long : ℕ}
-    → registry.Does came o before r after → number ≡ answerNumberOf (r .answer) → long ≡ answerLengthOf (r .answer)
-    → Does came o before (record { number = number; length = long; picture = r .picture }) after
-unfolding handed expected
-does {o = o} h n l =
-    let answered = ap (λ (x : Handed). x .answer) (h .outcome) in
-    record {
-      number = n ∙ ap answerNumberOf answered ∙ number-told o;
-      long = l ∙ ap answerLengthOf answered ∙ length-told o;
-      picture = ap (λ (x : Handed). x .picture) (h .outcome);
-      buffer = ap (λ (x : Handed). x .buffer) (h .outcome);
-      kept = h .kept;
-    }
 
 -- telegrams counted
 pub counts : (c : rules.Count) {answer : CountAnswer} {number telegrams : ℕ}

@@ -2,28 +2,14 @@
 use Prim.Native.Nat.{ℕ}
 use mathlib.Core.Path.{_≡_}
 use mathlib.Core.List.{List}
-use lib.ListN.{length}
 use lib.Seq.{sets}
 use Rattle.rules.specs.Telegram as rules
-use Rattle.rules.specs.Run.{Outcome, refused, numberOf, written, left, lent}
-use Rattle.registry.specs.declared.image.RegistryImage.{RegistryImage}
-use Rattle.registry.specs.View.{viewOf}
 use Rattle.reassembly.specs.declared.Reassembly.{Reassembly}
 use Rattle.reassembly.specs.declared.JoinAnswer.{JoinAnswer}
 use Rattle.reassembly.specs.declared.JoinAnswer.the-variants as joins
 use Rattle.reassembly.specs.Answers.{joiningOf, handedBack}
-use Rattle.lathepetal.specs.declared.ring.RecordOutcome.{RecordOutcome}
 use Rattle.lathepetal.specs.declared.telegrams.CutOutcome.{CutOutcome}
 use Rattle.lathepetal.specs.declared.telegrams.JoinOutcome.{JoinOutcome}
-
--- What a record does to the picture that came in: number, length, next picture and lent buffer are the rules', and a refusal hands back the
--- very picture.
-pub record Does (came : RegistryImage) (o : Outcome) (before : List ℕ) (r : RecordOutcome) (after : List ℕ) : Type 0 where
-  pub number : r .number ≡ numberOf o
-  pub long : r .length ≡ length (written o)
-  pub picture : viewOf (r .picture) ≡ left (viewOf came) o
-  pub buffer : after ≡ lent before o
-  pub kept : (n : ℕ) → o ≡ refused n → r .picture ≡ came
 
 -- What cutting does: number, length and lent buffer are the rules'.
 pub record Cuts (c : rules.Cut) (before : List ℕ) (r : CutOutcome) (after : List ℕ) : Type 0 where

@@ -8,23 +8,15 @@ ghost use Rattle.rules.specs.Listing.{listing, lookUp, lookupNumber, lookupPosi
 ghost use Rattle.node.specs.View.{pairOf};
 ghost use Rattle.listing.specs.View.{flatOf};
 ghost use Rattle.registry.specs.View.{viewOf};
-ghost use Rattle.registry.specs.Outcome.{Reached};
-ghost use Rattle.lathepetal.specs.Numbers.{Does};
+ghost use Rattle.registry.specs.Outcome.{Does, Reached};
 use listing::flat::Listing;
 use registry::image::RegistryImage;
+use registry::record::Recorded;
 
 // A fresh picture, and 0 where it is for the L that was asked for.
 #[repr(C)]
 pub struct FreshOutcome {
     pub number: u8,
-    pub picture: RegistryImage,
-}
-
-// The number of a refusal or 0, how many bytes the orders have, and the next picture.
-#[repr(C)]
-pub struct RecordOutcome {
-    pub number: u8,
-    pub length: usize,
     pub picture: RegistryImage,
 }
 
@@ -56,18 +48,11 @@ pub extern "C" fn lathepetal_record(
     picture: RegistryImage,
     bytes: &[u8],
     out: &mut [u8],
-) -> RecordOutcome
+) -> Recorded
     requires { ⌜ Reached (viewOf picture) ⌝ }
     ensures { λ r. ⌜ Does picture (step (viewOf picture) (now (bytes .entry)) (length (now (out .entry)))) (now (out .entry)) r (now (out .exit)) × Reached (viewOf (r .picture)) ⌝ }
 {
-    let recorded = picture.record(bytes, out);
-    let answer = recorded.answer;
-    let next = recorded.picture;
-    RecordOutcome {
-        number: answer.number(),
-        length: answer.length(),
-        picture: next,
-    }
+    picture.record(bytes, out)
 }
 
 // The whole listing, by position and announced order.

@@ -2,3 +2,4 @@
 pub mod address; // address.rt: positions and addresses
 pub mod entry; // entry.rt: the entry of a node
 pub mod pairs; // pairs.rt: pairs of block and number
+pub mod tests; // tests.rt: tests put together

@@ -20,17 +20,19 @@ orFrom (suc j) (h ∷ hs) [] = h ∷ hs
 orFrom (suc j) (h ∷ hs) (g ∷ gs) = h ∷ orFrom j hs gs
 
 module _ (f : Pair → Bool) where
-  turn : (j : ℕ) (d : Bool) (e : Pair) (hs : List Bool) (ps : List Pair) → j < length hs → j < length ps
+  turn : (j : ℕ) (d : Bool) (e : Pair) (hs : List Bool) (ps : List Pair) → j < length ps
       → orFrom (suc j) (set hs j (getD hs j d || f (getD ps j e))) (map f ps) ≡ orFrom j hs (map f ps)
   unfolding orFrom orEach
-  turn j d e [] ps h k = absurd (not-suc-le-zero h)
-  turn j d e (x ∷ hs) [] h k = absurd (not-suc-le-zero k)
-  turn zero d e (x ∷ hs) (p ∷ ps) h k = refl
-  turn (suc j) d e (x ∷ hs) (p ∷ ps) h k = ap (λ (l : List Bool). x ∷ l) (turn j d e hs ps (le-of-suc-le-suc h) (le-of-suc-le-suc k))
+  turn zero d e [] ps k = refl
+  turn (suc j) d e [] ps k = refl
+  turn zero d e (x ∷ hs) [] k = absurd (not-suc-le-zero k)
+  turn (suc j) d e (x ∷ hs) [] k = absurd (not-suc-le-zero k)
+  turn zero d e (x ∷ hs) (p ∷ ps) k = refl
+  turn (suc j) d e (x ∷ hs) (p ∷ ps) k = ap (λ (l : List Bool). x ∷ l) (turn j d e hs ps (le-of-suc-le-suc k))
 
-  pub or-on : (j : ℕ) (d : Bool) (e : Pair) (hs : List Bool) (ps : List Pair) {b : Bool} {whole : List Bool} → j < length hs → j < length ps
+  pub or-on : (j : ℕ) (d : Bool) (e : Pair) (hs : List Bool) (ps : List Pair) {b : Bool} {whole : List Bool} → j < length ps
       → b ≡ getD hs j d || f (getD ps j e) → orFrom j hs (map f ps) ≡ whole → orFrom (j + 1) (set hs j b) (map f ps) ≡ whole
-  or-on j d e hs ps h k i w = ap (λ (b : Bool). orFrom (j + 1) (set hs j b) (map f ps)) i ∙ rw (add-one j) (turn j d e hs ps h k) ∙ w
+  or-on j d e hs ps k i w = ap (λ (b : Bool). orFrom (j + 1) (set hs j b) (map f ps)) i ∙ rw (add-one j) (turn j d e hs ps k) ∙ w
 
   end : (j : ℕ) (hs : List Bool) (ps : List Pair) → length ps ≤ j → orFrom j hs (map f ps) ≡ hs
   unfolding orFrom orEach

@@ -50,7 +50,7 @@ module _ (bs ns : List ℕ) (h : length bs ≡ 16) (k : length ns ≡ 16) (c i :
   pub judged-end : min c 16 ≤ i → drop i (judgedOf (pairsFrom c bs ns) gs) ≡ []
   judged-end l = judged-past i (pairsFrom c bs ns) gs (omega (arith, pairs-length bs ns h k c))
 
-judged-few : (ps : List Pair) (gs : List Bool) → length (judgedOf ps gs) ≤ length ps
+pub judged-few : (ps : List Pair) (gs : List Bool) → length (judgedOf ps gs) ≤ length ps
 unfolding judgedOf
 judged-few [] gs = omega arith
 judged-few (p ∷ ps) [] = omega arith

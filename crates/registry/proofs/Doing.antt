@@ -12,10 +12,9 @@ use Rattle.rules.specs.Picture.{Picture, Row, isOk, isOpen, withState, withDela
 use Rattle.rules.specs.Order.{Order, encodeAll}
 use Rattle.rules.specs.Step.{Change, Response, refuse, change, refuseIf, asks, scanned, scan}
 use Rattle.rules.specs.Ending.{settled, okOrder, waitOrder, told, ordersOf, pictureOf}
-use Rattle.rules.specs.Run.{Outcome, refused, taken, concluded, left, written, lent}
+use Rattle.rules.specs.Run.{Outcome, refused, taken, concluded, left, written, lent, numberOf}
 use Rattle.registry.specs.declared.image.RegistryImage.{RegistryImage}
 use Rattle.registry.specs.declared.record.Recorded.{Recorded}
-use Rattle.registry.specs.declared.record.RecordAnswer.the-variants as answers
 use Rattle.registry.specs.View.{viewOf}
 use Rattle.registry.specs.Outcome.{handed, expected, Does, ended, endOrders, Ends, scanOrders, Scans}
 use Rattle.closing.proofs.Writing.{orders-append, orders-length, wrote-orders}
@@ -29,10 +28,10 @@ isTaken (refused n) = false
 isTaken (taken q os) = true
 
 -- a refusal hands back the very picture
-pub refuses : {came : RegistryImage} {o : Outcome} {r : Recorded} (b : List ℕ) (n : ℕ) → o ≡ refused n → (r .answer ≡ answers.Refused n) × (r .picture ≡ came)
+pub refuses : {came : RegistryImage} {o : Outcome} {r : Recorded} (b : List ℕ) (n : ℕ) → o ≡ refused n → (r .number ≡ n) × (r .length ≡ 0) × (r .picture ≡ came)
     → Does came o b r b
-unfolding handed expected left lent written
-refuses b n e f = along e (record { outcome = (λ i. record { picture = viewOf (f .1 i); answer = f .0 i; buffer = b }); kept = λ m h. f .1 })
+unfolding handed expected left lent numberOf written
+refuses b n e f = along e (record { outcome = (λ i. record { picture = viewOf (f .2 i); number = f .0 i; length = f .1 i; buffer = b }); kept = λ m h. f .2 })
 
 -- the orders of a taken event: those in front of the ending, and the ending's own
 pub orders-of : (p : Picture) (c : Change) → ordersOf p c ≡ (c .first ++ told p (c .picture) ++ c .set) ++ endOrders (c .picture)
@@ -41,10 +40,10 @@ orders-of p c = append-assoc (c .first ++ told p (c .picture) ++ c .set) (okOrde
 
 -- what is handed back with a taken event
 pub takes : {came : RegistryImage} {r : Recorded} {b d : List ℕ} (p : Picture) (c : Change) → viewOf (r .picture) ≡ ended (c .picture)
-    → r .answer ≡ answers.Taken (length (encodeAll (c .picture .pass) (ordersOf p c))) → d ≡ sets b 0 (encodeAll (c .picture .pass) (ordersOf p c))
+    → r .number ≡ 0 → r .length ≡ length (encodeAll (c .picture .pass) (ordersOf p c)) → d ≡ sets b 0 (encodeAll (c .picture .pass) (ordersOf p c))
     → Does came (concluded p (change c)) b r d
-unfolding handed expected left lent written concluded pictureOf ended withDelay settled withState isTaken
-takes p c e f g = record { outcome = (λ i. record { picture = e i; answer = f i; buffer = g i }); kept = λ n h. clash refl (ap isTaken h) }
+unfolding handed expected left lent numberOf written concluded pictureOf ended withDelay settled withState isTaken
+takes p c e n f g = record { outcome = (λ i. record { picture = e i; number = n i; length = f i; buffer = g i }); kept = λ n h. clash refl (ap isTaken h) }
 
 pub written-taken : (p : Picture) (c : Change) → written (concluded p (change c)) ≡ encodeAll (c .picture .pass) (ordersOf p c)
 unfolding written concluded pictureOf withDelay settled withState
@@ -57,8 +56,8 @@ module _ {came : RegistryImage} {r : Recorded} {b m d : List ℕ} {at : ℕ} (p 
       let n = c .picture .pass in
       let x = wrote-orders n (c .first ++ told p (c .picture) ++ c .set) (endOrders (c .picture)) w (record { buffer = e .buffer; place = refl }) in
       let l = ap (encodeAll n) (sym (orders-of p c)) in
-      takes p c (e .picture)
-      (e .answer ∙ ap (λ (k : ℕ). answers.Taken k) (x .place ∙ omega arith ∙ ap length l))
+      takes p c (e .picture) (e .number)
+      (e .length ∙ x .place ∙ omega arith ∙ ap length l)
       (x .buffer ∙ ap (sets b 0) l)
 
 -- An event whose change is c: the orders in front of the ending are fs, and the picture that goes to the ending is q.

@@ -14,7 +14,6 @@ use Rattle.rules.specs.Ending.{becomesOk, settled, okOrder, waits, waitOrder}
 use Rattle.entries.specs.Tests.{isShort}
 use Rattle.registry.specs.declared.image.RegistryImage.{RegistryImage}
 use Rattle.registry.specs.declared.record.Recorded.{Recorded}
-use Rattle.registry.specs.declared.record.RecordAnswer.the-variants as answers
 use Rattle.registry.specs.View.{viewOf}
 use Rattle.registry.specs.Outcome.{ended, endOrders, Ends}
 use Rattle.closing.proofs.Writing.{orders-length, wrote-orders}
@@ -63,12 +62,13 @@ module _ (n : ℕ) {os : List Order} (xs ys : List Order) (e : os ≡ xs ++ ys) 
 
 -- the ending written behind `at`
 pub ends : (q : Picture) (r : RegistryImage) (os ps : List Order) {b c d : List ℕ} {at i j : ℕ} → viewOf r ≡ ended q → endOrders q ≡ os ++ ps
-    → Wrote b at (encodeAll (q .pass) os) i c → Wrote c i (encodeAll (q .pass) ps) j d → Ends q b at (record { answer = answers.Taken j; picture = r }) d
+    → Wrote b at (encodeAll (q .pass) os) i c → Wrote c i (encodeAll (q .pass) ps) j d → Ends q b at (record { number = 0; length = j; picture = r }) d
 ends q r os ps {b} {c} {d} {at} {i} {j} e f g h =
     let w = wrote-orders (q .pass) os ps g h in
     let l = ap (encodeAll (q .pass)) (sym f) in
     record {
       picture = e;
-      answer = ap (λ (n : ℕ). answers.Taken n) (w .place ∙ ap (λ (m : List ℕ). at + length m) l);
+      number = refl;
       buffer = w .buffer ∙ ap (sets b at) l;
+      length = w .place ∙ ap (λ (m : List ℕ). at + length m) l;
     }

@@ -1,4 +1,4 @@
--- A run of calls has the rules' pictures, answers and orders.
+-- A run of calls has the rules' pictures, numbers and orders.
 use Prim.Native.Nat.{ℕ, zero, suc, _<_}
 use mathlib.Core.Path.{_≡_, refl, sym, _∙_, ap}
 use mathlib.Core.Bool.{Bool, true, false, cond}
@@ -6,13 +6,13 @@ use mathlib.Core.List.{List, [], _∷_, map}
 use native.Mathlib.Nat.{not-suc-le-zero, le-of-suc-le-suc}
 use lib.ListN.{length, getD, take}
 use Rattle.rules.specs.Picture.{Picture, legalSize, fresh, freshNumber}
-use Rattle.rules.specs.Run.{Outcome, refused, taken, Record, offered, step, numberOf, written, lent, next, after}
+use Rattle.rules.specs.Run.{Record, offered, step, next, after}
 use Rattle.rules.specs.Claims.{pictureAt, recordAt}
 use Rattle.rules.proofs.Demand3.{demand3}
 use Rattle.registry.specs.declared.image.RegistryImage.{RegistryImage}
 use Rattle.registry.specs.declared.image.MakeAnswer.the-variants as makes
 use Rattle.registry.specs.View.{viewOf, makeNumberOf, makeAnswer}
-use Rattle.registry.specs.Outcome.{Handed, handed, expected, answerNumberOf, answerLengthOf, answerOf, Does}
+use Rattle.registry.specs.Outcome.{Handed, handed, expected, Does}
 use Rattle.registry.specs.Calls.{Call, Calls, no-call, then-call, imageAt, recordOf, Follows, Promises}
 
 -- what one call leaves
@@ -21,16 +21,6 @@ does-picture : {i : RegistryImage} (c : Call) → Does i (step (viewOf i) (c .by
 unfolding handed expected recordOf
 does-picture c h = ap (λ (x : Handed). x .picture) (h .outcome)
 
-does-answer : {i : RegistryImage} (c : Call) → Does i (step (viewOf i) (c .bytes) (length (c .before))) (c .before) (c .result) (c .after)
-    → c .result .answer ≡ answerOf (offered (viewOf i) (recordOf c))
-unfolding handed expected recordOf
-does-answer c h = ap (λ (x : Handed). x .answer) (h .outcome)
-
-does-buffer : {i : RegistryImage} (c : Call) → Does i (step (viewOf i) (c .bytes) (length (c .before))) (c .before) (c .result) (c .after)
-    → c .after ≡ lent (c .before) (offered (viewOf i) (recordOf c))
-unfolding handed expected recordOf
-does-buffer c h = ap (λ (x : Handed). x .buffer) (h .outcome)
-
 pictures : (p : Picture) (i : RegistryImage) (cs : List Call) → viewOf i ≡ p → Calls i cs → (k : ℕ) → viewOf (imageAt i cs k) ≡ after p (take k (map recordOf cs))
 unfolding imageAt after
 pictures p i cs e h zero = e
@@ -38,22 +28,16 @@ pictures p i [] e h (suc k) = e
 pictures p i (c ∷ cs) e (then-call d h) (suc k) =
     pictures (next p (recordOf c)) (c .result .picture) cs (does-picture c d ∙ ap (λ (q : Picture). next q (recordOf c)) e) h k
 
+-- what every call hands back
 module _ (none : Record) where
-  answers : (p : Picture) (i : RegistryImage) (cs : List Call) → viewOf i ≡ p → Calls i cs → (k : ℕ) (c : Call) → k < length cs
-      → getD cs k c .result .answer ≡ answerOf (offered (after p (take k (map recordOf cs))) (getD (map recordOf cs) k none))
-  unfolding after
-  answers p i [] e h k c l = absurd (not-suc-le-zero l)
-  answers p i (b ∷ cs) e (then-call d h) zero c l = does-answer b d ∙ ap (λ (q : Picture). answerOf (offered q (recordOf b))) e
-  answers p i (b ∷ cs) e (then-call d h) (suc k) c l =
-      answers (next p (recordOf b)) (b .result .picture) cs (does-picture b d ∙ ap (λ (q : Picture). next q (recordOf b)) e) h k c (le-of-suc-le-suc l)
-
-  buffers : (p : Picture) (i : RegistryImage) (cs : List Call) → viewOf i ≡ p → Calls i cs → (k : ℕ) (c : Call) → k < length cs
-      → getD cs k c .after ≡ lent (getD cs k c .before) (offered (after p (take k (map recordOf cs))) (getD (map recordOf cs) k none))
-  unfolding after
-  buffers p i [] e h k c l = absurd (not-suc-le-zero l)
-  buffers p i (b ∷ cs) e (then-call d h) zero c l = does-buffer b d ∙ ap (λ (q : Picture). lent (b .before) (offered q (recordOf b))) e
-  buffers p i (b ∷ cs) e (then-call d h) (suc k) c l =
-      buffers (next p (recordOf b)) (b .result .picture) cs (does-picture b d ∙ ap (λ (q : Picture). next q (recordOf b)) e) h k c (le-of-suc-le-suc l)
+  backs : (p : Picture) (i : RegistryImage) (cs : List Call) → viewOf i ≡ p → Calls i cs → (k : ℕ) (c : Call) → k < length cs
+      → handed (getD cs k c .result) (getD cs k c .after)
+      ≡ expected (after p (take k (map recordOf cs))) (getD cs k c .before) (offered (after p (take k (map recordOf cs))) (getD (map recordOf cs) k none))
+  unfolding after recordOf
+  backs p i [] e h k c l = absurd (not-suc-le-zero l)
+  backs p i (b ∷ cs) e (then-call d h) zero c l = d .outcome ∙ ap (λ (q : Picture). expected q (b .before) (offered q (recordOf b))) e
+  backs p i (b ∷ cs) e (then-call d h) (suc k) c l =
+      backs (next p (recordOf b)) (b .result .picture) cs (does-picture b d ∙ ap (λ (q : Picture). next q (recordOf b)) e) h k c (le-of-suc-le-suc l)
 
 made : (l : ℕ) → makeNumberOf (makeAnswer l) ≡ freshNumber l
 unfolding makeAnswer freshNumber
@@ -63,21 +47,14 @@ made l = go (legalSize l)
     go true = refl
     go false = refl
 
-recorded : (o : Outcome) → (answerNumberOf (answerOf o) ≡ numberOf o) × (answerLengthOf (answerOf o) ≡ length (written o))
-unfolding numberOf written
-recorded (refused n) = (refl, refl)
-recorded (taken q os) = (refl, refl)
-
 pub promises : Promises
 unfolding pictureAt recordAt
 promises =
     record {
       made = made;
-      recorded = recorded;
       follows = λ l i cs e h. record {
         pictures = pictures (fresh l) i cs e h;
-        answers = answers _ (fresh l) i cs e h;
-        buffers = buffers _ (fresh l) i cs e h;
+        backs = backs _ (fresh l) i cs e h;
         demand3 = demand3 l (map recordOf cs);
       };
     }

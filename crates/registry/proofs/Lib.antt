@@ -3,9 +3,9 @@ pub mod Endings
 pub mod Doing
 pub mod Scanning
 pub mod Telling
-pub mod Seats
 pub mod Places
+pub mod Replying
 pub mod Refusing
-pub mod Announcing
+pub mod Conflicts
 pub mod Stepping
 pub mod Following

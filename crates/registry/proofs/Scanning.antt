@@ -18,7 +18,6 @@ use Rattle.rules.specs.Ending.{becomesOk, settled, okOrder, told, waits, waitOr
 use Rattle.rules.specs.Run.{Outcome, refused, concluded, written}
 use Rattle.registry.specs.declared.image.RegistryImage.{RegistryImage}
 use Rattle.registry.specs.declared.record.Recorded.{Recorded}
-use Rattle.registry.specs.declared.record.RecordAnswer.the-variants as answers
 use Rattle.registry.specs.View.{viewOf}
 use Rattle.registry.specs.Outcome.{Does, ended, endOrders, Ends, scanOrders, Scans}
 use Rattle.closing.proofs.Writing.{orders-one, orders-length, wrote-orders}
@@ -46,8 +45,9 @@ module _ (p q : Picture) {n : ℕ} (e : n ≡ suc (p .pass)) (f : q ≡ scanned 
         let l : encodeAll n (asks isOpen 1 (p .rows) ++ endOrders q) ≡ encodeAll (suc (p .pass)) (scanOrders p) = (λ j. encodeAll (e j) (asks isOpen 1 (p .rows) ++ endOrders (f j))) in
         record {
           picture = h .picture ∙ ap ended f;
-          answer = h .answer ∙ ap (λ (k : ℕ). answers.Taken k) (ap (λ (k : ℕ). i + length (encodeAll k (endOrders q))) g ∙ x .place ∙ ap (λ (y : List ℕ). at + length y) l);
+          number = h .number;
           buffer = x .buffer ∙ ap (sets b at) l;
+          length = h .length ∙ ap (λ (k : ℕ). i + length (encodeAll k (endOrders q))) g ∙ x .place ∙ ap (λ (y : List ℕ). at + length y) l;
         }
 
 -- what is told where OK is left: nothing
@@ -95,8 +95,8 @@ module _ (p : Picture) (first : List Order) (rs : List Row) where
         let x = wrote-orders n first (scanOrders (withRows rs p)) w (record { buffer = t .buffer; place = refl }) in
         let l = ap (encodeAll n) (sym scan-orders) in
         subst (λ (y : Outcome). Does came y b r d) (sym e)
-        (takes p (scan first rs p) (t .picture)
-        (t .answer ∙ ap (λ (k : ℕ). answers.Taken k) (x .place ∙ omega arith ∙ ap length l))
+        (takes p (scan first rs p) (t .picture) (t .number)
+        (t .length ∙ x .place ∙ omega arith ∙ ap length l)
         (x .buffer ∙ ap (sets b 0) l))
 
 -- START and NCE, with a pass left and without
@@ -119,10 +119,10 @@ module _ (p : Picture) (n : ℕ) where
 
 -- SHUTDOWN writes nothing
 pub shuts : {came : RegistryImage} {r : Recorded} (p : Picture) (b : List ℕ) → _≡_ {A = Picture} (viewOf (r .picture)) (record { state = Off; pass = p .pass; size = p .size; delay = false; rows = [] })
-    → r .answer ≡ answers.Taken 0 → Does came (concluded p (respond p SHUTDOWN)) b r b
+    → r .number ≡ 0 → r .length ≡ 0 → Does came (concluded p (respond p SHUTDOWN)) b r b
 unfolding respond shutDown ended withDelay settled withState becomesOk waits isNotOk isOk ordersOf told okOrder waitOrder encodeAll collect
-shuts p b e f =
-    takes p (shutDown p) e (f ∙ ap (λ (os : List Order). answers.Taken (length (encodeAll (p .pass) os))) (sym none)) (ap (λ (os : List Order). sets b 0 (encodeAll (p .pass) os)) (sym none))
+shuts p b e n f =
+    takes p (shutDown p) e n (f ∙ ap (λ (os : List Order). length (encodeAll (p .pass) os)) (sym none)) (ap (λ (os : List Order). sets b 0 (encodeAll (p .pass) os)) (sym none))
   where
     none : ordersOf p (shutDown p) ≡ []
     none = ap (λ (os : List Order). [] ++ os ++ [] ++ [] ++ []) (none-told (isOk (p .state)) _)

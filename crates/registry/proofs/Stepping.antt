@@ -29,7 +29,8 @@ use Rattle.records.specs.View.{eventOf}
 use Rattle.registry.specs.declared.image.RegistryImage.{RegistryImage}
 use Rattle.registry.specs.declared.record.Recorded.{Recorded}
 use Rattle.registry.specs.View.{viewOf}
-use Rattle.registry.specs.Outcome.{handed, expected, Handed, Does, Reached, refusalOf, respondTo, WellFormed}
+use Rattle.registry.specs.Outcome.{handed, expected, Handed, Does, Reached, respondTo, WellFormed}
+use Rattle.refusals.specs.Numbers.{refusalOf}
 
 -- refusals 1 to 4
 module _ (p : Picture) (b : List ℕ) (room : ℕ) where
@@ -167,3 +168,12 @@ refusal-same s (events.DelayExpired c) ps = refl
 pub reached-fresh : {p : Picture} (l : ℕ) → p ≡ fresh l → Reached p
 unfolding after
 reached-fresh l e = record { size = l; records = []; made = e }
+
+-- a record that does what some outcome says, where that is the rules' own
+module _ (s : RegistryImage) (h : Reached (viewOf s)) (b out : List ℕ) where
+  pub recorded : {o : Outcome} {r : Recorded} {d : List ℕ} → step (viewOf s) b (length out) ≡ o → Does s o out r d
+      → Does s (step (viewOf s) b (length out)) out r d × Reached (viewOf (r .picture))
+  recorded {o} {r} {d} e k = let m = subst (λ (t : Outcome). Does s t out r d) (sym e) k in (m, reached-next (viewOf s) h b (length out) refl m)
+
+  pub fits : minRoom ≤ length out → {o : Outcome} → step (viewOf s) b (length out) ≡ o → length (written o) ≤ length out
+  fits l e = subst (λ (t : Outcome). length (written t) ≤ length out) e (omega (arith, l, reached-room (viewOf s) h b (length out)))

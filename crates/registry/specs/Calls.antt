@@ -4,12 +4,12 @@ use mathlib.Core.Path.{_≡_}
 use mathlib.Core.List.{List, [], _∷_, map}
 use lib.ListN.{length, getD}
 use Rattle.rules.specs.Picture.{fresh, freshNumber}
-use Rattle.rules.specs.Run.{Outcome, Record, offered, step, lent, written, numberOf}
+use Rattle.rules.specs.Run.{Record, offered, step}
 use Rattle.rules.specs.Claims.{pictureAt, recordAt, Demand3}
 use Rattle.registry.specs.declared.image.RegistryImage.{RegistryImage}
 use Rattle.registry.specs.declared.record.Recorded.{Recorded}
 use Rattle.registry.specs.View.{viewOf, makeNumberOf, makeAnswer}
-use Rattle.registry.specs.Outcome.{answerNumberOf, answerLengthOf, answerOf, Does}
+use Rattle.registry.specs.Outcome.{handed, expected, Does}
 
 -- one call: the record's bytes, the lent buffer before and after it, and what came back
 pub record Call : Type 0 where
@@ -34,17 +34,17 @@ imageAt i (c ∷ cs) (suc k) = imageAt (c .result .picture) cs k
 unfoldable pub recordOf : Call → Record
 recordOf c = record { bytes = c .bytes; room = length (c .before) }
 
--- Every run from a fresh picture for L has exactly the rules' pictures, answers and orders, and so demand 3 speaks of it.
+-- Every run from a fresh picture for L has exactly the rules' pictures, and each call hands back what they say: the next picture, the
+-- number, the length of the orders and the lent buffer. So demand 3 speaks of it.
 pub record Follows (l : ℕ) (i : RegistryImage) (cs : List Call) : Type 0 where
   pub pictures : (k : ℕ) → viewOf (imageAt i cs k) ≡ pictureAt l (map recordOf cs) k
-  pub answers : (k : ℕ) (c : Call) → k < length cs → getD cs k c .result .answer ≡ answerOf (offered (pictureAt l (map recordOf cs) k) (recordAt (map recordOf cs) k))
-  pub buffers : (k : ℕ) (c : Call) → k < length cs
-      → getD cs k c .after ≡ lent (getD cs k c .before) (offered (pictureAt l (map recordOf cs) k) (recordAt (map recordOf cs) k))
+  pub backs : (k : ℕ) (c : Call) → k < length cs
+      → handed (getD cs k c .result) (getD cs k c .after)
+      ≡ expected (pictureAt l (map recordOf cs) k) (getD cs k c .before) (offered (pictureAt l (map recordOf cs) k) (recordAt (map recordOf cs) k))
   pub demand3 : Demand3 l (map recordOf cs)
 
 pub record Promises : Type 0 where
-  -- the numbers and lengths of the answers are the rules'
+  -- the number given back where a picture is made is the rules'
   pub made : (l : ℕ) → makeNumberOf (makeAnswer l) ≡ freshNumber l
-  pub recorded : (o : Outcome) → (answerNumberOf (answerOf o) ≡ numberOf o) × (answerLengthOf (answerOf o) ≡ length (written o))
   -- of every run of calls from a fresh picture for L
   pub follows : (l : ℕ) (i : RegistryImage) (cs : List Call) → viewOf i ≡ fresh l → Calls i cs → Follows l i cs

@@ -1,52 +1,39 @@
 -- What a record does: the next picture, the answer and the lent buffer, in one equation with the rules' outcome.
 use Prim.Native.Nat.{ℕ, suc, _+_, _≤_, min}
 use mathlib.Core.Path.{_≡_}
-use mathlib.Core.Bool.{Bool, true, false, cond, _&&_, _||_}
+use mathlib.Core.Bool.{Bool, true, false, _||_}
 use mathlib.Core.List.{List, [], _∷_, _++_, map}
 use mathlib.Core.Option.{Option, none, some}
 use lib.ListN.{length}
 use lib.Seq.{sets}
-use Rattle.rules.specs.Picture.{Picture, State, Pair, Row, fresh, withDelay, isOpen, seatAt, others, put}
+use Rattle.rules.specs.Picture.{Picture, Row, fresh, withDelay, isOpen, seatAt}
 use Rattle.rules.specs.House.{maxNodes}
 use Rattle.rules.specs.Event.{Event, START, NCE, SHUTDOWN, ANSWER, NONE, DELAY}
 use Rattle.rules.specs.Order.{Order, NOTOK, encodeAll}
-use Rattle.rules.specs.Step.{Response, refuse, change, respond, takes, notTaken, asks, scanned, scan, changeRows, counted, atLimit, emptied, onCounted, conflict, verdict, answer, keepAnswer}
+use Rattle.rules.specs.Renumber.{Renumbering}
+use Rattle.rules.specs.Step.{Response, refuse, change, respond, asks, scanned, scan, changeRows, emptied, onCounted, conflict}
 use Rattle.rules.specs.Ending.{settled, okOrder, waits, waitOrder}
-use Rattle.rules.specs.Run.{Outcome, refused, taken, concluded, left, lent, Record, after}
-use Rattle.laws.specs.Lists.{any}
+use Rattle.rules.specs.Run.{Outcome, refused, concluded, left, lent, numberOf, written, Record, after}
 use Rattle.entries.specs.Tests.{countsFor, struck}
+use Rattle.announcement.specs.Hearing.{replyChange}
 use Rattle.registry.specs.declared.image.RegistryImage.{RegistryImage}
 use Rattle.registry.specs.declared.record.Recorded.{Recorded}
-use Rattle.registry.specs.declared.record.RecordAnswer.{RecordAnswer}
-use Rattle.registry.specs.declared.record.RecordAnswer.the-variants as answers
 use Rattle.registry.specs.View.{viewOf}
 
-abbrev pub answerNumberOf : RecordAnswer → ℕ
-answerNumberOf (answers.Refused n) = n
-answerNumberOf (answers.Taken n) = 0
-
-abbrev pub answerLengthOf : RecordAnswer → ℕ
-answerLengthOf (answers.Refused n) = 0
-answerLengthOf (answers.Taken n) = n
-
--- the answer that an outcome of the rules is in code
-abbrev pub answerOf : Outcome → RecordAnswer
-answerOf (refused n) = answers.Refused n
-answerOf (taken q os) = answers.Taken (length (encodeAll (q .pass) os))
-
--- what comes back: the picture that is handed back, the answer, and the lent buffer
+-- what comes back: the picture that is handed back, the number given back, the length of the orders, and the lent buffer
 pub record Handed : Type 0 where
   pub picture : Picture
-  pub answer : RecordAnswer
+  pub number : ℕ
+  pub length : ℕ
   pub buffer : List ℕ
 
 -- as the code hands it back
 unfoldable pub handed : Recorded → List ℕ → Handed
-handed r buffer = record { picture = viewOf (r .picture); answer = r .answer; buffer = buffer }
+handed r buffer = record { picture = viewOf (r .picture); number = r .number; length = r .length; buffer = buffer }
 
 -- as the rules have it
 unfoldable pub expected : Picture → List ℕ → Outcome → Handed
-expected p buffer o = record { picture = left p o; answer = answerOf o; buffer = lent buffer o }
+expected p buffer o = record { picture = left p o; number = numberOf o; length = length (written o); buffer = lent buffer o }
 
 -- What a record does to the picture that came in: what the rules say, and a refusal hands back the very picture.
 pub record Does (came : RegistryImage) (o : Outcome) (before : List ℕ) (r : Recorded) (after : List ℕ) : Type 0 where
@@ -68,8 +55,9 @@ endOrders q = okOrder q ++ waitOrder (settled q)
 
 pub record Ends (q : Picture) (before : List ℕ) (at : ℕ) (r : Recorded) (after : List ℕ) : Type 0 where
   pub picture : viewOf (r .picture) ≡ ended q
-  pub answer : r .answer ≡ answers.Taken (at + length (encodeAll (q .pass) (endOrders q)))
+  pub number : r .number ≡ 0
   pub buffer : after ≡ sets before at (encodeAll (q .pass) (endOrders q))
+  pub length : r .length ≡ at + length (encodeAll (q .pass) (endOrders q))
 
 -- an event's own step, or 2 where the bytes are no event
 unfoldable pub respondTo : Picture → Option Event → Response
@@ -86,28 +74,20 @@ WellFormed (some (ANSWER c x a ps)) = Unit {0}
 WellFormed (some (NONE c x)) = Unit {0}
 WellFormed (some (DELAY c)) = Unit {0}
 
--- 2, 3, 4, or 0 where the table takes the event
-unfoldable pub refusalOf : State → Option Event → ℕ
-refusalOf s none = 2
-refusalOf s (some e) = cond (takes s e) 0 (notTaken e)
-
 -- a scan of the rows of p, behind the orders written up to `at`
 abbrev pub scanOrders : Picture → List Order
 scanOrders p = asks isOpen 1 (p .rows) ++ endOrders (scanned (p .rows) p)
 
 pub record Scans (p : Picture) (before : List ℕ) (at : ℕ) (r : Recorded) (after : List ℕ) : Type 0 where
   pub picture : viewOf (r .picture) ≡ ended (scanned (p .rows) p)
-  pub answer : r .answer ≡ answers.Taken (at + length (encodeAll (suc (p .pass)) (scanOrders p)))
+  pub number : r .number ≡ 0
   pub buffer : after ≡ sets before at (encodeAll (suc (p .pass)) (scanOrders p))
+  pub length : r .length ≡ at + length (encodeAll (suc (p .pass)) (scanOrders p))
 
--- The outcomes of an ANSWER or a NONE for position x, step by step: the row of x becomes r; the address is judged; it is bad, and counted
--- for x, and for those that keep it too where it is shared; it is fine.
-abbrev pub replaceOutcome : Picture → (x : ℕ) → Row → Outcome
-replaceOutcome p x r = concluded p (change (changeRows (put (seatAt (p .rows) x) r) p))
-
-abbrev pub announceOutcome : Picture → (x a : ℕ) → List Pair → Outcome
-announceOutcome p x a ps =
-    concluded p (answer (verdict (others (seatAt (p .rows) x)) (seatAt (p .rows) x .row) a) x a ps (seatAt (p .rows) x) p)
+-- The outcomes of an ANSWER or a NONE for position x: the row of x becomes r, and n is sent to address a; or the address is bad, and
+-- counted for x, and for those that keep it too where it is shared.
+abbrev pub replyOutcome : Picture → (x a : ℕ) → Row → Renumbering → Outcome
+replyOutcome p x a r n = concluded p (change (replyChange (seatAt (p .rows) x) x a r n p))
 
 abbrev pub conflictOutcome : Bool → Picture → (x a : ℕ) → Outcome
 conflictOutcome shared p x a = concluded p (conflict (countsFor shared a) a (seatAt (p .rows) x) p)
@@ -118,13 +98,6 @@ ignoreOutcome shared p x a = concluded p (change (changeRows (onCounted (countsF
 abbrev pub restartOutcome : Bool → Picture → (x a : ℕ) → Outcome
 restartOutcome shared p x a =
     concluded p (change (scan (NOTOK ∷ []) (map emptied (onCounted (countsFor shared a) (struck false a) (seatAt (p .rows) x))) p))
-
-abbrev pub keepOutcome : Picture → (x a : ℕ) → List Pair → Outcome
-keepOutcome p x a ps = concluded p (change (keepAnswer x a ps (seatAt (p .rows) x) p))
-
--- another row that is counted stands at the limit
-abbrev pub othersAtLimit : Bool → Picture → (x a : ℕ) → Bool
-othersAtLimit shared p x a = any (λ (r : Row). countsFor shared a r && atLimit (counted r)) (others (seatAt (p .rows) x))
 
 -- position x has a row
 pub record Seat (i : RegistryImage) (x : ℕ) : Type 0 where

@@ -5,7 +5,6 @@ ghost use Rattle.rules.specs.Order.{encodeAll};
 ghost use Rattle.registry.specs.View.{viewOf};
 ghost use Rattle.registry.specs.Outcome.{endOrders, Ends};
 use super::image::RegistryImage;
-use super::record::RecordAnswer;
 use super::record::Recorded;
 use closing::ending;
 use entries::outlook;
@@ -30,7 +29,8 @@ impl RegistryImage {
         let next = ending::delayed(delay, starts);
         self.delay = next;
         Recorded {
-            answer: RecordAnswer::Taken(end),
+            number: 0,
+            length: end,
             picture: self,
         }
     }

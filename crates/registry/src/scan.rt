@@ -10,7 +10,6 @@ ghost use Rattle.registry.specs.View.{viewOf};
 ghost use Rattle.registry.specs.Outcome.{scanOrders, Scans, Does};
 use super::image;
 use super::image::RegistryImage;
-use super::record::RecordAnswer;
 use super::record::Recorded;
 use closing::state::CfgDelay;
 use closing::state::NOTOK;
@@ -21,15 +20,13 @@ use orders::order;
 use orders::order::Notice;
 use orders::told;
 use orders::told::Which;
+use refusals::NOT_ASKED;
+use refusals::WRONG_PASS;
 
 // The last pass.
 pub const MAX_PASS: u32 = 4294967295;
 
 pub const NO_PASS_LEFT: u8 = 9;
-
-pub const WRONG_PASS: u8 = 5;
-
-pub const NOT_ASKED: u8 = 8;
 
 impl RegistryImage {
     // A scan of these entries, behind the orders written up to `at`: the next pass, NOTOK, no delay, an ASK for each open question.
@@ -83,7 +80,8 @@ impl RegistryImage {
         ensures { λ r. ⌜ Does self (concluded (viewOf self) (respond (viewOf self) SHUTDOWN)) (now (out .entry)) r (now (out .exit)) ⌝ }
     {
         Recorded {
-            answer: RecordAnswer::Taken(0),
+            number: 0,
+            length: 0,
             picture: RegistryImage::stopped(self.pass, self.size),
         }
     }

@@ -2,7 +2,7 @@
 mod command;
 mod fields;
 mod help;
-mod orders;
+mod order_lines;
 mod show;
 
 ghost use Rattle.registry.specs.View.{viewOf};
@@ -95,9 +95,8 @@ fn offer(bench: Bench, text: &mut [u8; SPACE], record: &[u8], orders: &mut [u8])
     let told = echo(output, text, record);
     let room = smaller(bench.room, orders.len());
     let recorded = picture.record(record, &mut orders[0..room]);
-    let answer = recorded.answer;
     let next = recorded.picture;
-    let number = answer.number();
+    let number = recorded.number;
     if number != 0 {
         let refused = remarks::refusal(told, text, number);
         return Bench {
@@ -107,8 +106,8 @@ fn offer(bench: Bench, text: &mut [u8; SPACE], record: &[u8], orders: &mut [u8])
         };
     }
     let taken = told.line(text, b"= taken");
-    let length = smaller(answer.length(), room);
-    let written = orders::lines(taken, text, &orders[0..length]);
+    let length = smaller(recorded.length, room);
+    let written = order_lines::lines(taken, text, &orders[0..length]);
     Bench {
         picture: next,
         room: bench.room,

@@ -1,5 +1,5 @@
 // What a picture shows: state, listing, rows, and where a pair is listed.
-use super::orders;
+use super::order_lines;
 use closing::state::OFF;
 use closing::state::OK;
 use console::output::Output;
@@ -114,7 +114,7 @@ fn kept_pairs(output: Output, text: &mut [u8; SPACE], pairs: Pairs) -> Output {
     let n = pairs.len();
     let mut i = 0;
     while i < n {
-        next = orders::pair(next, text, pairs.blocks[i], pairs.numbers[i]);
+        next = order_lines::pair(next, text, pairs.blocks[i], pairs.numbers[i]);
         i += 1;
     }
     next

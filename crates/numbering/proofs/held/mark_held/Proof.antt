@@ -6,7 +6,7 @@ use Rattle.numbering.proofs.Holding.{or-end, or-on, orFrom}
 use Rattle.numbering.specs.Marks.{orEach}
 use Rattle.rules.specs.Picture.{holds}
 use borrow.Author.Needs.{needs}
-use lib.ListN.{getD, length, length-set}
+use lib.ListN.{getD, length}
 use mathlib.Core.Bool.{Bool, _||_}
 use mathlib.Core.List.{map}
 use mathlib.Core.Path.{_∙_, _≡_, ap, refl, sym}
@@ -15,31 +15,32 @@ use Rattle.numbering.proofs.held.mark_held.Statement.{statement}
 use Rattle.numbering.proofs.held.mark_held.Tie as tie
 
 abbrev Inv-loop : tie.InvT-loop
-Inv-loop kept announced n next₀ i₀ next i = (i ≤ n) × (length next ≡ 16) × (length (announced .blocks) ≡ 16) × (length (announced .numbers) ≡ 16) × (orFrom i next (map (holds (pairsOf kept)) (pairsOf announced)) ≡ orEach next₀ (map (holds (pairsOf kept)) (pairsOf announced)))
+Inv-loop marks₀ kept announced n i₀ marks i = (i ≤ n) × (length (announced .blocks) ≡ 16) × (length (announced .numbers) ≡ 16) × (orFrom i marks (map (holds (pairsOf kept)) (pairsOf announced)) ≡ orEach marks₀ (map (holds (pairsOf kept)) (pairsOf announced)))
 
 abbrev μ-loop : tie.MeasureT-loop
-μ-loop kept announced n next₀ i₀ next i = n - i
+μ-loop marks₀ kept announced n i₀ marks i = n - i
 
 len-requires : tie.Need-len-requires Inv-loop μ-loop
 len-requires c κs = search needs
 
 loop-holds : tie.Need-loop-holds Inv-loop μ-loop
 unfolding orFrom
-loop-holds c = (omega arith, search needs, search needs, search needs, refl)
+loop-holds c = (omega arith, search needs, search needs, refl)
 
-array-read-either : tie.Need-array-read-either Inv-loop μ-loop
-array-read-either c =
+element-copy-out-either : tie.Need-element-copy-out-either Inv-loop μ-loop
+element-copy-out-either c =
     let at-len = c .before .before in
     omega (arith, at-len .len .ensures, c .loop-test .taken)
 
 element-copy-out-holds : tie.Need-element-copy-out-holds Inv-loop μ-loop
 element-copy-out-holds c =
-    let at-len = c .before .before in
-    omega (arith, at-len .len .ensures, c .loop-test .taken)
+    let at-loop-test = c .before in
+    let at-len = at-loop-test .before .before in
+    omega (arith, at-len .len .ensures, at-loop-test .loop-test .taken)
 
 element-copy-out-holds-2 : tie.Need-element-copy-out-holds-2 Inv-loop μ-loop
 element-copy-out-holds-2 c =
-    let at-loop-test = c .before in
+    let at-loop-test = c .before .before in
     let at-len = at-loop-test .before .before in
     omega (arith, at-len .len .ensures, at-loop-test .loop-test .taken)
 
@@ -49,15 +50,15 @@ holds-requires c κs = search needs
 either-requires : tie.Need-either-requires Inv-loop μ-loop
 either-requires c κs = search needs
 
-array-write-next : tie.Need-array-write-next Inv-loop μ-loop
-array-write-next c =
-    let at-loop-test = c .before .before .before .before in
+element-write-marks : tie.Need-element-write-marks Inv-loop μ-loop
+element-write-marks c =
+    let at-loop-test = c .before .before .before .before .before in
     let at-len = at-loop-test .before .before in
     omega (arith, at-len .len .ensures, at-loop-test .loop-test .taken)
 
 add-i : tie.Need-add-i Inv-loop μ-loop
 add-i c =
-    let at-loop-test = c .before .before .before .before in
+    let at-loop-test = c .before .before .before .before .before in
     let at-len = at-loop-test .before .before in
     omega (arith, at-len .len .ensures, at-loop-test .loop-test .taken)
 
@@ -68,11 +69,11 @@ loop-again : tie.Need-loop-again Inv-loop μ-loop
 unfolding pairsOf
 loop-again c =
     let at-holds = c .before in
-    let at-loop-test = at-holds .before .before .before in
+    let at-loop-test = at-holds .before .before .before .before in
     let at-loop = at-loop-test .before in
     let at-len = at-loop .before in
     let start = at-len .before in
-    let w = at-loop .loop .inv in let s = start .args .t3 in let l : at-loop .loop .i < min (s .count) 16 = omega (arith, at-len .len .ensures, at-loop-test .loop-test .taken) in (omega arith, simp length-set (w .1), w .2, w .3, or-on (holds (pairsOf (start .args .kept))) (at-loop .loop .i) _ (pairOf 0 0) (at-loop .loop .next) (pairsOf s) (omega (arith, w .1)) (omega (arith, pairs-length (s .blocks) (s .numbers) (w .2) (w .3) (s .count))) (c .either .ensures ∙ ap (λ (b : Bool). getD (at-loop .loop .next) (at-loop .loop .i) _ || b) (at-holds .holds .ensures ∙ ap (holds (pairsOf (start .args .kept))) (sym (pairs-at (s .blocks) (s .numbers) (w .2) (w .3) (s .count) (at-loop .loop .i) (pairOf 0 0) l)))) (w .4))
+    let w = at-loop .loop .inv in let s = start .args .t3 in let l : at-loop .loop .i < min (s .count) 16 = omega (arith, at-len .len .ensures, at-loop-test .loop-test .taken) in (omega arith, w .1, w .2, or-on (holds (pairsOf (start .args .kept))) (at-loop .loop .i) _ (pairOf 0 0) (at-loop .loop .marks) (pairsOf s) (omega (arith, pairs-length (s .blocks) (s .numbers) (w .1) (w .2) (s .count))) (c .either .ensures ∙ ap (λ (b : Bool). getD (at-loop .loop .marks) (at-loop .loop .i) _ || b) (at-holds .holds .ensures ∙ ap (holds (pairsOf (start .args .kept))) (sym (pairs-at (s .blocks) (s .numbers) (w .1) (w .2) (s .count) (at-loop .loop .i) (pairOf 0 0) l)))) (w .3))
 
 returns : tie.Need-returns Inv-loop μ-loop
 unfolding pairsOf
@@ -80,7 +81,7 @@ returns c =
     let at-loop = c .before in
     let at-len = at-loop .before in
     let start = at-len .before in
-    let w = at-loop .loop .inv in let s = start .args .t3 in or-end (holds (pairsOf (start .args .kept))) (at-loop .loop .i) (at-loop .loop .next) (pairsOf s) (omega (arith, pairs-length (s .blocks) (s .numbers) (w .2) (w .3) (s .count), at-len .len .ensures, c .loop-test .left)) (w .4)
+    let w = at-loop .loop .inv in let s = start .args .t3 in or-end (holds (pairsOf (start .args .kept))) (at-loop .loop .i) (at-loop .loop .marks) (pairsOf s) (omega (arith, pairs-length (s .blocks) (s .numbers) (w .1) (w .2) (s .count), at-len .len .ensures, c .loop-test .left)) (w .3)
 
 pub mark-held-spec : {M : Type 1} → statement M
 mark-held-spec =
@@ -90,12 +91,12 @@ mark-held-spec =
     μ-loop
     len-requires
     loop-holds
-    array-read-either
+    element-copy-out-either
     element-copy-out-holds
     element-copy-out-holds-2
     holds-requires
     either-requires
-    array-write-next
+    element-write-marks
     add-i
     loop-less
     loop-again

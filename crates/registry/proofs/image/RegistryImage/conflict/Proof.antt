@@ -1,6 +1,6 @@
 -- By the counts.
 use Prim.Native.Nat.{_≤_}
-use Rattle.registry.proofs.Announcing.{conflict-9, conflict-others, conflict-own, conflict-restart}
+use Rattle.registry.proofs.Conflicts.{conflict-9, conflict-others, conflict-own, conflict-restart}
 use Rattle.registry.proofs.Doing.{along, refuses}
 use Rattle.rules.specs.Run.{Outcome, written}
 use Rattle.rules.specs.Step.{atLimit}

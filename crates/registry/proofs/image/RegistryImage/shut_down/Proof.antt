@@ -13,7 +13,7 @@ returns : tie.Need-returns
 unfolding viewOf
 returns c =
     let start = c .before .before in
-    shuts (viewOf (start .args .self)) (start .args .out .now) (c .stopped .ensures) refl
+    shuts (viewOf (start .args .self)) (start .args .out .now) (c .stopped .ensures) refl refl
 
 pub shut-down-spec : {M : Type 1} → statement M
 shut-down-spec = tie.close (tie.spec stopped-requires returns)

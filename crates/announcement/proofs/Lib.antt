@@ -1,0 +1,4 @@
+-- Laws that several functions' proofs use.
+pub mod Walking
+pub mod Seats
+pub mod Hearing

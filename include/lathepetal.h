@@ -20,7 +20,7 @@
  * - Lent bytes beyond those that are written never change.
  *
  * The box keeps nothing between calls: no globals, no allocation, no locks. Threads may call at the same time, each with its own picture,
- * state and buffers. Stack, with the copies that a call passes and returns: lathepetal_record up to 80 KiB, lathepetal_listing 16 KiB,
+ * state and buffers. Stack, with the copies that a call passes and returns: lathepetal_record up to 48 KiB, lathepetal_listing 16 KiB,
  * the others 8 KiB. */
 #ifndef LATHEPETAL_H
 #define LATHEPETAL_H

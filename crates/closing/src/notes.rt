@@ -1,12 +1,12 @@
-// What is told of one entry that has changed, and what becomes of an entry that is answered.
+// What is told of entries that have changed, and the SET of a renumbering.
 ghost use mathlib.Core.Path.{_≡_};
 ghost use Prim.Native.Nat.{_+_, _≤_};
 ghost use lib.ListN.{length};
 ghost use Rattle.laws.specs.Buffers.{Wrote};
-ghost use Rattle.rules.specs.Picture.{Row, isOk};
+ghost use Rattle.rules.specs.Picture.{isOk};
 ghost use Rattle.rules.specs.Order.{encodeAll};
-ghost use Rattle.rules.specs.Step.{statusAfter, setOrder};
-ghost use Rattle.node.specs.View.{rowOf, rowsOf, pairsOf};
+ghost use Rattle.rules.specs.Step.{setOrder};
+ghost use Rattle.node.specs.View.{rowOf, rowsOf};
 ghost use Rattle.numbering.specs.Marks.{renumberingOf};
 ghost use Rattle.closing.specs.State.{stateOf};
 ghost use Rattle.closing.specs.Told.{rowTold, rowsTold};
@@ -15,10 +15,7 @@ use super::state::OFF;
 use super::state::RegistryState;
 use node::address::LogicalNodeAddress;
 use node::address::NodePosition;
-use node::entry::LISTED;
 use node::entry::NodeEntry;
-use node::entry::SETTING;
-use node::pairs::Pairs;
 use numbering::renumber::Renumbering;
 use orders::order;
 use orders::order::Delta;

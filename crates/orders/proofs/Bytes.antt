@@ -8,12 +8,11 @@ use lib.ListN.{length, getD, set, take, drop, length-take, length-drop}
 use lib.Seq.{sets}
 use Rattle.laws.specs.Buffers.{Wrote, wrote-append, wrote-along}
 use Rattle.laws.specs.Lists.{collect}
-use Rattle.laws.specs.Views.{firsts-length}
 use Rattle.rules.specs.Picture.{Pair}
 use Rattle.rules.specs.Event.{two, four, pairBytes}
 use Rattle.rules.specs.Order.{Order, kindOf, bodyOf, encode}
-use Rattle.node.specs.View.{pairOf, zipPairs, pairsFrom}
-use Rattle.node.proofs.Arrays.{zip-length, pairs-here, pairs-min}
+use Rattle.node.specs.View.{pairOf, pairsFrom}
+use Rattle.node.proofs.Arrays.{pairs-here}
 use Rattle.orders.specs.View.{noticeOf, deltaOf}
 use Rattle.orders.specs.declared.order.Notice.{Notice}
 use Rattle.orders.specs.declared.order.Notice.the-variants as notices
@@ -96,16 +95,10 @@ wrote-delta {c = c} {i = i} pass n d ps f g h w =
 pub delta-length : (pass : ℕ) (d : Delta) (ps : List Pair) → length (encode pass (deltaOf d ps)) ≡ 8 + length (collect pairBytes ps)
 delta-length pass d ps = let e = order-length pass (deltaOf d ps) in let f = ap length (delta-body d ps) in omega arith
 
--- pairs of an array: how many there are, and one turn of writing those from i up to `to`
-pub pairs-length : (c : ℕ) (bs ns : List ℕ) → length bs ≡ 16 → length ns ≡ 16 → length (pairsFrom c bs ns) ≡ min c 16
-unfolding pairsFrom
-pairs-length c bs ns h k =
-    let z = zip-length 16 bs ns h k in
-    sym (ap length (pairs-min bs ns h k c)) ∙ firsts-length (λ (a : Pair). a) (min c 16) (zipPairs bs ns) (omega arith)
-
 pub part-length : {A : Type 0} (ps : List A) (from n : ℕ) → from + n ≤ length ps → length (take n (drop from ps)) ≡ n
 part-length ps from n h = simp (length-take, length-drop) (omega arith)
 
+-- pairs of an array: one turn of writing those from i up to `to`
 module _ (bs ns : List ℕ) (h : length bs ≡ 16) (k : length ns ≡ 16) where
   pub pairs-on : (c i to : ℕ) → i < to → to ≤ min c 16
       → collect pairBytes (take (to - i) (drop i (pairsFrom c bs ns)))

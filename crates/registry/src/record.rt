@@ -1,6 +1,5 @@
 // One record: taken or refused.
 ghost use mathlib.Core.Path.{_≡_};
-ghost use Prim.Native.Nat.{_≤_, _<_};
 ghost use lib.ListN.{length};
 ghost use Rattle.rules.specs.Run.{step};
 ghost use Rattle.registry.specs.View.{viewOf};

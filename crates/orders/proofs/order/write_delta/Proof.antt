@@ -2,7 +2,7 @@
 use Rattle.node.specs.View.{pairsOf}
 use Prim.Native.Nat.{_-_, _≤_}
 use Rattle.laws.specs.Buffers.{Owes, owes-end, owes-start}
-use Rattle.orders.proofs.Bytes.{pairs-length}
+use Rattle.node.proofs.Arrays.{pairs-length}
 use Rattle.orders.proofs.Tellings.{tell-end, tell-room, tell-turn}
 use Rattle.orders.specs.View.{deltaOf}
 use Rattle.rules.specs.Ending.{tell}
@@ -34,7 +34,7 @@ unfolding pairsOf
 loop-holds c =
     let start = c .before .before in
     let s = start .args .pairs in
-    (omega arith, refl, pairs-length (s .count) (s .blocks) (s .numbers) (search needs) (search needs) ∙ sym (c .len .ensures), owes-start _ _ _)
+    (omega arith, refl, pairs-length (s .blocks) (s .numbers) (search needs) (search needs) (s .count) ∙ sym (c .len .ensures), owes-start _ _ _)
 
 sub-least : tie.Need-sub-least Inv-loop μ-loop
 sub-least c = search needs

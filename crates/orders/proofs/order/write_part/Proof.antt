@@ -1,6 +1,7 @@
 -- The head, the count, and the pairs.
 use Rattle.node.specs.View.{pairsOf}
-use Rattle.orders.proofs.Bytes.{delta-length, head-end, pairs-length, part-length, wrote-delta}
+use Rattle.node.proofs.Arrays.{pairs-length}
+use Rattle.orders.proofs.Bytes.{delta-length, head-end, part-length, wrote-delta}
 use borrow.Author.Needs.{needs}
 use lib.ListN.{drop, length-set, take}
 use mathlib.Core.Path.{_∙_, sym}
@@ -52,7 +53,7 @@ returns c =
     let start = at-kind-of .before .before in
     let s = start .args .pairs in
     let p = start .good .1 .1 .1 .1 .0 .1 .1 .1 in
-    let l = pairs-length (s .count) (s .blocks) (s .numbers) (search needs) (search needs) in
+    let l = pairs-length (s .blocks) (s .numbers) (search needs) (search needs) (s .count) in
     wrote-delta (start .args .pass) (start .args .n) (start .args .delta) (take (start .args .n) (drop (start .args .from) (pairsOf (start .args .pairs)))) (at-kind-of .kind-of .ensures) (sym (part-length (pairsOf s) (start .args .from) (start .args .n) (omega arith))) (at-write-head .write-head .ensures) (at-write-pairs .write-pairs .ensures)
 
 pub write-part-spec : {M : Type 1} → statement M

@@ -2,11 +2,10 @@
 -- results, but for the row of silences, number 10 for L = 46 and for a cut: these were worked out by hand.
 use Prim.Native.Nat.{ℕ, zero, suc}
 use mathlib.Core.List.{List, [], _∷_, _++_}
-use lib.ListN.{replicate}
 use Rattle.rules.specs.Run.{Record, Result}
 use Rattle.rules.specs.Listing.{found, notFound}
-use Rattle.rules.specs.Telegram.{uncounted, countIs, uncut, cutTo, idle, opened, unjoined, stillOpen, complete}
-use Rattle.rules.specs.Table.{hex, with512, gives, noOrders, refusal, entry, toMake, records, recordsFrom, listingAfter, lookUpAfter, toCount, toCut, toJoin, made, results, listing, lookUp, count, telegram, joined, Edge, edge}
+use Rattle.rules.specs.Telegram.{uncounted, countIs, uncut, cutTo}
+use Rattle.rules.specs.Table.{hex, with512, gives, noOrders, refusal, entry, toMake, records, recordsFrom, listingAfter, lookUpAfter, toCount, toCut, made, results, listing, lookUp, count, telegram, Edge, edge}
 
 -- so many times the same records, or the same results
 unfoldable pub times : {A : Type 0} → ℕ → List A → List A
@@ -529,10 +528,9 @@ cases =
     ∷ edge (toMake 12) (made 0 12)
     ∷ edge (toMake 45) (made 0 45)
     ∷ edge (toMake 46) (made 10 12)
-    -- counting and cutting: 10, 11, 12 and 13, in this order
+    -- counting and cutting: 10, 12 and 13, in this order
     ∷ edge (toCount 11 0) (count (uncounted 10))
     ∷ edge (toCount 46 0) (count (uncounted 10))
-    ∷ edge (toCount 12 65536) (count (uncounted 11))
     ∷ edge (toCount 12 0) (count (countIs 1))
     ∷ edge (toCount 45 45) (count (countIs 1))
     ∷ edge (toCount 45 46) (count (countIs 2))
@@ -545,65 +543,4 @@ cases =
     ∷ edge (toCut 12 0xFFFFFFFF [] 1 6) (telegram (cutTo (hex 6 0xFFFFFFFF_0000)))
     ∷ edge (toCut 12 0x00000001 [] 1 5) (telegram (uncut 13))
     ∷ edge (toCut 12 0x01020304 (hex 24 0x000102030405060708090A0B0C0D0E0F1011121314151617) 2 18) (telegram (cutTo (hex 18 0x01020304_200C_01_0B0C0D0E0F101112131415)))
-    -- joining: 10, 13, 14 and 15 leave an open message as it is
-    ∷ edge
-    (toJoin 11 (opened 0x0102000C 3 5) 65534 (hex 8 0x0102000C200203AA ∷ []))
-    (joined (unjoined 10 ∷ []) (opened 0x0102000C 3 5) (hex 8 0x0000000000000000))
-    ∷ edge
-    (toJoin 46 (opened 0x0102000C 3 5) 65535 (hex 8 0x0102000C200203AA ∷ []))
-    (joined (unjoined 10 ∷ []) (opened 0x0102000C 3 5) (hex 8 0x0000000000000000))
-    ∷ edge
-    (toJoin 12 (opened 0x0102000C 3 5) 65534 (hex 0 0x0 ∷ []))
-    (joined (unjoined 13 ∷ []) (opened 0x0102000C 3 5) (hex 8 0x0000000000000000))
-    ∷ edge
-    (toJoin 12 (opened 0x0102000C 3 5) 65535 (hex 0 0x0
-    ∷ hex 5 0x0102000C00
-    ∷ hex 7 0x0102000C400200
-    ∷ hex 8 0x0102000C00010000
-    ∷ hex 7 0x0102000C000200
-    ∷ hex 19 0x0102000C000D00000000000000000000000000
-    ∷ hex 19 0x0102000C500D00000000000000000000000000
-    ∷ hex 6 0x0102000C1000
-    ∷ hex 6 0x0102000C2000
-    ∷ hex 6 0x0102000C3000
-    ∷ hex 6 0x0102000C4000
-    ∷ hex 8 0x0102000C40020005
-    ∷ hex 7 0x0102000CF00103
-    ∷ hex 9 0x0102000C200303AABB
-    ∷ hex 8 0x0102000C300204CC ∷ []))
-    (joined (unjoined 14 ∷ unjoined 14 ∷ unjoined 14 ∷ unjoined 14 ∷ unjoined 14 ∷ unjoined 14 ∷ unjoined 14 ∷ unjoined 14 ∷ unjoined 14 ∷ unjoined 14 ∷ unjoined 15 ∷ unjoined 15 ∷ unjoined 15 ∷ stillOpen ∷ complete 0x0102000C 8 ∷ []) idle (hex 8 0x0000000000AABBCC))
-    -- 16 ends the open message and leaves the buffer: another counter, another MsgID, none open, a first telegram with a counter
-    ∷ edge
-    (toJoin 12 (opened 0x0102000C 3 5) 65535 (hex 8 0x0102000C200204AA
-    ∷ hex 8 0x0102000C200203AA ∷ []))
-    (joined (unjoined 16 ∷ unjoined 16 ∷ []) idle (hex 8 0x0000000000000000))
-    ∷ edge
-    (toJoin 12 (opened 0x0102000C 3 5) 65535 (hex 8 0x0102000D300203AA
-    ∷ hex 8 0x0102000C300203AA ∷ []))
-    (joined (unjoined 16 ∷ unjoined 16 ∷ []) idle (hex 8 0x0000000000000000))
-    ∷ edge
-    (toJoin 12 idle 65535 (hex 8 0x0102000C200200AA
-    ∷ hex 8 0x0102000C300200AA ∷ []))
-    (joined (unjoined 16 ∷ unjoined 16 ∷ []) idle (hex 8 0x0000000000000000))
-    ∷ edge
-    (toJoin 12 (opened 0x0102000C 3 5) 65535 (hex 8 0x0102000C100201AA
-    ∷ hex 8 0x0102000C200203AA ∷ []))
-    (joined (unjoined 16 ∷ unjoined 16 ∷ []) idle (hex 8 0x0000000000000000))
-    -- TelID 0 completes and TelID 1 begins, and either drops an open message; a telegram of a counter alone is taken
-    ∷ edge
-    (toJoin 12 (opened 0x0102000C 3 5) 65535 (hex 8 0x0102000D0002AABB
-    ∷ hex 8 0x0102000C200203AA ∷ []))
-    (joined (complete 0x0102000D 2 ∷ unjoined 16 ∷ []) idle (hex 8 0xAABB000000000000))
-    ∷ edge
-    (toJoin 12 (opened 0x0102000C 3 5) 65535 (hex 9 0x0102000D100300AABB
-    ∷ hex 7 0x0102000D200101
-    ∷ hex 8 0x0102000D300202CC ∷ []))
-    (joined (stillOpen ∷ stillOpen ∷ complete 0x0102000D 3 ∷ []) idle (hex 8 0xAABBCC0000000000))
-    -- a total of 65,535 completes, one of 65,536 is refused 16
-    ∷ edge
-    (toJoin 12 (opened 0x0102000C 7 65533) 65535 (hex 9 0x0102000C300307AABB ∷ []))
-    (joined (complete 0x0102000C 65535 ∷ []) idle (hex 8 0x0000000000000000))
-    ∷ edge
-    (toJoin 12 (opened 0x0102000C 7 65533) 65535 (hex 10 0x0102000C300407AABBCC ∷ []))
-    (joined (unjoined 16 ∷ []) idle (hex 8 0x0000000000000000))
     ∷ []

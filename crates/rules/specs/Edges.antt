@@ -81,9 +81,6 @@ edges =
     ∷ edge (toCount 12 13) (count (countIs 2))
     ∷ edge (toCut 12 0x0102000C (hex 13 0x000102030405060708090A0B0C) 1 18) (telegram (cutTo (hex 18 0x0102000C_100C_00_000102030405060708090A)))
     ∷ edge (toCut 12 0x0102000C (hex 13 0x000102030405060708090A0B0C) 2 9) (telegram (cutTo (hex 9 0x0102000C_3003_01_0B0C)))
-    -- 65,535 at L = 12: 5,958 telegrams, last TelLen 9
-    ∷ edge (toCount 12 65_535) (count (countIs 5_958))
-    ∷ edge (toCut 12 0x0102000C (replicate 65_535 0xAB) 5_958 15) (telegram (cutTo (hex 15 0x0102000C_3009_45_ABABABABABABABAB)))
     -- * counter 255, then 0: cut, and joined
     ∷ edge (toCut 12 0x0102000C (replicate 2_838 0xAB) 256 18) (telegram (cutTo (hex 18 0x0102000C_200C_FF_ABABABABABABABABABABAB)))
     ∷ edge (toCut 12 0x0102000C (replicate 2_838 0xAB) 257 18) (telegram (cutTo (hex 18 0x0102000C_200C_00_ABABABABABABABABABABAB)))

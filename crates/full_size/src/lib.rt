@@ -1,0 +1,1 @@
+// Telegrams of full size as a table over the rules; no code.

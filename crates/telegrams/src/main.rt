@@ -38,6 +38,12 @@ fn with_output(desk: Desk, output: Output) -> Desk {
     }
 }
 
+// A line that is no command.
+fn not_understood(desk: Desk, text: &mut [u8; SPACE], line: &[u8], reason: u8) -> Desk {
+    let output = desk.output;
+    with_output(desk, remarks::not_understood(output, text, line, reason))
+}
+
 // The first n of these bytes.
 fn copy(payload: &mut [u8], bytes: &[u8], n: usize) {
     let mut i = 0;
@@ -54,15 +60,22 @@ fn copy(payload: &mut [u8], bytes: &[u8], n: usize) {
 }
 
 // The payload from a line's bytes.
-fn set_payload(desk: Desk, text: &mut [u8; SPACE], bytes: &[u8], payload: &mut [u8]) -> Desk {
-    let size = smaller(bytes.len(), payload.len());
+fn set_payload(
+    desk: Desk,
+    text: &mut [u8; SPACE],
+    bytes: &[u8],
+    n: usize,
+    payload: &mut [u8],
+) -> Desk {
+    let length = smaller(n, bytes.len());
+    let size = smaller(length, payload.len());
     copy(payload, bytes, size);
     let joining = desk.joining;
     let output = desk.output;
     let mut named = output.bytes(text, b"payload");
-    if 0 < bytes.len() {
+    if 0 < length {
         let blank = named.byte(text, b' ');
-        named = blank.hex_bytes(text, bytes);
+        named = blank.hex_bytes(text, &bytes[0..length]);
     }
     Desk {
         payload: size,
@@ -153,10 +166,12 @@ fn cut(
     msg_id: u32,
     number: usize,
     room: &mut [u8],
+    n: usize,
 ) -> Output {
-    let values = [l, high(msg_id), low(msg_id), number, room.len()];
+    let lent = smaller(n, room.len());
+    let values = [l, high(msg_id), low(msg_id), number, lent];
     let asked = output.form(text, b"cut %d %w%w %d %d\n", &values);
-    telegram(asked, text, payload, l, msg_id, number, room)
+    telegram(asked, text, payload, l, msg_id, number, &mut room[0..lent])
 }
 
 // This many telegrams of the payload.
@@ -266,6 +281,73 @@ fn join(desk: Desk, text: &mut [u8; SPACE], buffer: &mut [u8], l: usize, bytes: 
     }
 }
 
+// What is counted or cut of a payload.
+fn segmented(
+    output: Output,
+    text: &mut [u8; SPACE],
+    payload: &[u8],
+    command: Command,
+    room: &mut [u8],
+) -> Output {
+    match command {
+        Command::Count(l) => count(output, text, payload, l),
+        Command::Cut {
+            l,
+            msg_id,
+            number,
+            room: n,
+        } => cut(output, text, payload, l, msg_id, number, room, n),
+        Command::CutAll { l, msg_id } => cut_all(output, text, payload, l, msg_id, room),
+        _ => output,
+    }
+}
+
+// The same of the payload at hand.
+fn segment(
+    desk: Desk,
+    text: &mut [u8; SPACE],
+    payload: &[u8],
+    command: Command,
+    room: &mut [u8],
+) -> Desk {
+    let output = desk.output;
+    let size = smaller(desk.payload, payload.len());
+    with_output(
+        desk,
+        segmented(output, text, &payload[0..size], command, room),
+    )
+}
+
+// A fresh join state.
+fn rejoin(desk: Desk, text: &mut [u8; SPACE]) -> Desk {
+    let output = desk.output;
+    let joining = Reassembly::fresh();
+    Desk {
+        payload: desk.payload,
+        joining,
+        output: output.line(text, b"rejoin"),
+    }
+}
+
+// A telegram offered with so much of the join buffer, where its normal form is no longer than a line.
+fn offer(
+    desk: Desk,
+    text: &mut [u8; SPACE],
+    line: &[u8],
+    l: usize,
+    buffer: &mut [u8],
+    room: usize,
+    bytes: &[u8],
+    n: usize,
+) -> Desk {
+    let length = smaller(n, bytes.len());
+    if MAX_LINE < join_width(l, room, length) {
+        return not_understood(desk, text, line, TOO_LONG);
+    }
+    let lent = smaller(room, buffer.len());
+    join(desk, text, &mut buffer[0..lent], l, &bytes[0..length])
+}
+
 // A command line.
 fn obey(
     desk: Desk,
@@ -277,63 +359,13 @@ fn obey(
     buffer: &mut [u8],
 ) -> Desk {
     let command = command::parse(line, bytes);
-    let output = desk.output;
-    let size = smaller(desk.payload, payload.len());
     match command {
-        Command::NotUnderstood(reason) => with_output(
-            desk,
-            remarks::not_understood(output, text, line, reason),
-        ),
-        Command::Payload(n) => {
-            let length = smaller(n, bytes.len());
-            set_payload(desk, text, &bytes[0..length], payload)
-        }
+        Command::NotUnderstood(reason) => not_understood(desk, text, line, reason),
+        Command::Payload(n) => set_payload(desk, text, bytes, n, payload),
         Command::Fill { n, seed } => fill(desk, text, payload, n, seed),
-        Command::Count(l) => with_output(desk, count(output, text, &payload[0..size], l)),
-        Command::Cut {
-            l,
-            msg_id,
-            number,
-            room: n,
-        } => {
-            let lent = smaller(n, room.len());
-            with_output(
-                desk,
-                cut(
-                    output,
-                    text,
-                    &payload[0..size],
-                    l,
-                    msg_id,
-                    number,
-                    &mut room[0..lent],
-                ),
-            )
-        }
-        Command::CutAll { l, msg_id } => with_output(
-            desk,
-            cut_all(output, text, &payload[0..size], l, msg_id, room),
-        ),
-        Command::Rejoin => {
-            let joining = Reassembly::fresh();
-            Desk {
-                payload: desk.payload,
-                joining,
-                output: output.line(text, b"rejoin"),
-            }
-        }
-        Command::Join {
-            l,
-            room: n,
-            n: length,
-        } => {
-            let lent = smaller(n, buffer.len());
-            let known = smaller(length, bytes.len());
-            if MAX_LINE < join_width(l, n, known) {
-                return with_output(desk, remarks::not_understood(output, text, line, TOO_LONG));
-            }
-            join(desk, text, &mut buffer[0..lent], l, &bytes[0..known])
-        }
+        Command::Rejoin => rejoin(desk, text),
+        Command::Join { l, room: lent, n } => offer(desk, text, line, l, buffer, lent, bytes, n),
+        _ => segment(desk, text, payload, command, room),
     }
 }
 
@@ -367,9 +399,8 @@ fn if_fits(
     room: &mut [u8],
     buffer: &mut [u8],
 ) -> Desk {
-    let output = desk.output;
     if line.len() < length {
-        return with_output(desk, remarks::not_understood(output, text, line, TOO_LONG));
+        return not_understood(desk, text, line, TOO_LONG);
     }
     answer(desk, text, &line[0..length], bytes, payload, room, buffer)
 }

@@ -30,6 +30,19 @@ struct Bench {
     output: Output,
 }
 
+// The bench with this output.
+fn with_output(bench: Bench, output: Output) -> Bench
+    requires { ⌜ Reached (viewOf (bench .picture)) ⌝ }
+    ensures { λ r. ⌜ Reached (viewOf (r .picture)) ⌝ }
+{
+    let picture = bench.picture;
+    Bench {
+        picture,
+        room: bench.room,
+        output,
+    }
+}
+
 // A fresh picture for L.
 fn fresh(bench: Bench, text: &mut [u8; SPACE], l: usize) -> Bench
     ensures { λ r. ⌜ Reached (viewOf (r .picture)) ⌝ }
@@ -85,34 +98,57 @@ fn echo(output: Output, text: &mut [u8; SPACE], record: &[u8]) -> Output {
     told.line_end(text)
 }
 
-// Offers a record.
-fn offer(bench: Bench, text: &mut [u8; SPACE], record: &[u8], orders: &mut [u8]) -> Bench
+// What a record gives back: a refusal, or that it is taken, and its orders.
+fn recorded_lines(
+    output: Output,
+    text: &mut [u8; SPACE],
+    orders: &[u8],
+    number: u8,
+    length: usize,
+) -> Output {
+    if number != 0 {
+        return remarks::refusal(output, text, number);
+    }
+    let taken = output.line(text, b"= taken");
+    let end = smaller(length, orders.len());
+    order_lines::lines(taken, text, &orders[0..end])
+}
+
+// Offers a record with so much order room.
+fn offer(bench: Bench, text: &mut [u8; SPACE], record: &[u8], lent: &mut [u8]) -> Bench
     requires { ⌜ Reached (viewOf (bench .picture)) ⌝ }
     ensures { λ r. ⌜ Reached (viewOf (r .picture)) ⌝ }
 {
-    let output = bench.output;
     let picture = bench.picture;
-    let told = echo(output, text, record);
-    let room = smaller(bench.room, orders.len());
-    let recorded = picture.record(record, &mut orders[0..room]);
+    let asked = echo(bench.output, text, record);
+    let recorded = picture.record(record, lent);
     let next = recorded.picture;
-    let number = recorded.number;
-    if number != 0 {
-        let refused = remarks::refusal(told, text, number);
-        return Bench {
-            picture: next,
-            room: bench.room,
-            output: refused,
-        };
-    }
-    let taken = told.line(text, b"= taken");
-    let length = smaller(recorded.length, room);
-    let written = order_lines::lines(taken, text, &orders[0..length]);
+    let told = recorded_lines(asked, text, lent, recorded.number, recorded.length);
     Bench {
         picture: next,
         room: bench.room,
-        output: written,
+        output: told,
     }
+}
+
+// Offers a record whose normal form is no longer than a line.
+fn offer_if_fits(
+    bench: Bench,
+    text: &mut [u8; SPACE],
+    line: &[u8],
+    record: &[u8],
+    n: usize,
+    orders: &mut [u8],
+) -> Bench
+    requires { ⌜ Reached (viewOf (bench .picture)) ⌝ }
+    ensures { λ r. ⌜ Reached (viewOf (r .picture)) ⌝ }
+{
+    let length = smaller(n, record.len());
+    if fields::wider(&record[0..length], MAX_LINE - 2) {
+        return not_understood(bench, text, line, TOO_LONG);
+    }
+    let room = smaller(bench.room, orders.len());
+    offer(bench, text, &record[0..length], &mut orders[0..room])
 }
 
 // A line that is no command.
@@ -120,13 +156,8 @@ fn not_understood(bench: Bench, text: &mut [u8; SPACE], line: &[u8], reason: u8)
     requires { ⌜ Reached (viewOf (bench .picture)) ⌝ }
     ensures { λ r. ⌜ Reached (viewOf (r .picture)) ⌝ }
 {
-    let output = remarks::not_understood(bench.output, text, line, reason);
-    let picture = bench.picture;
-    Bench {
-        picture,
-        room: bench.room,
-        output,
-    }
+    let output = bench.output;
+    with_output(bench, remarks::not_understood(output, text, line, reason))
 }
 
 // A look-up in its normal form.
@@ -135,48 +166,31 @@ fn look_up_echo(output: Output, text: &mut [u8; SPACE], block: u8, number: u8) -
     output.form(text, b"lookup %b %b\n", &values)
 }
 
-// A command that changes nothing.
-fn shown(bench: Bench, text: &mut [u8; SPACE], command: Command) -> Bench
-    requires { ⌜ Reached (viewOf (bench .picture)) ⌝ }
-    ensures { λ r. ⌜ Reached (viewOf (r .picture)) ⌝ }
-{
-    let output = bench.output;
-    let picture = bench.picture;
-    let room = bench.room;
+// What a command that changes nothing shows.
+fn shown(
+    output: Output,
+    text: &mut [u8; SPACE],
+    picture: RegistryImage,
+    command: Command,
+) -> Output {
     match command {
         Command::State => {
             let name = output.line(text, b"state");
-            Bench {
-                picture,
-                room,
-                output: show::state(name, text, picture),
-            }
+            show::state(name, text, picture)
         }
         Command::Listing => {
             let name = output.line(text, b"listing");
-            Bench {
-                picture,
-                room,
-                output: show::listing(name, text, picture.listing()),
-            }
+            show::listing(name, text, picture.listing())
         }
         Command::Rows => {
             let name = output.line(text, b"rows");
-            Bench {
-                picture,
-                room,
-                output: show::rows(name, text, picture),
-            }
+            show::rows(name, text, picture)
         }
         Command::LookUp { block, number } => {
             let asked = look_up_echo(output, text, block, number);
-            Bench {
-                picture,
-                room,
-                output: show::found(asked, text, picture.look_up(block, number)),
-            }
+            show::found(asked, text, picture.look_up(block, number))
         }
-        _ => bench,
+        _ => output,
     }
 }
 
@@ -196,14 +210,12 @@ fn obey(
         Command::NotUnderstood(reason) => not_understood(bench, text, line, reason),
         Command::Fresh(l) => fresh(bench, text, l),
         Command::Room(n) => room(bench, text, n),
-        Command::Record(n) => {
-            let length = smaller(n, record.len());
-            if fields::wider(&record[0..length], MAX_LINE - 2) {
-                return not_understood(bench, text, line, TOO_LONG);
-            }
-            offer(bench, text, &record[0..length], orders)
+        Command::Record(n) => offer_if_fits(bench, text, line, record, n, orders),
+        _ => {
+            let output = bench.output;
+            let picture = bench.picture;
+            with_output(bench, shown(output, text, picture, command))
         }
-        _ => shown(bench, text, command),
     }
 }
 
@@ -222,12 +234,7 @@ fn answer(
     match kind {
         LineKind::Remark => {
             let output = bench.output;
-            let picture = bench.picture;
-            Bench {
-                picture,
-                room: bench.room,
-                output: output.line(text, line),
-            }
+            with_output(bench, output.line(text, line))
         }
         LineKind::EarlierAnswer => bench,
         LineKind::Offer => obey(bench, text, line, record, orders),
@@ -266,12 +273,7 @@ fn turn(
 {
     let next = if_fits(bench, text, line, length, record, orders);
     let output = next.output;
-    let picture = next.picture;
-    Bench {
-        picture,
-        room: next.room,
-        output: output.drained(text),
-    }
+    with_output(next, output.drained(text))
 }
 
 // The script, line by line, up to its end or to a failed write.

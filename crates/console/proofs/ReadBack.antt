@@ -10,10 +10,9 @@ use lib.Dec.{ltb, leb}
 use lib.ListN.{length}
 use Rattle.io.specs.Digits.{digits, glyph}
 use Rattle.laws.specs.Bools.{cond-true, cond-false, and-left, and-right, and-true}
-use Rattle.script.specs.Text.{hexValue, glyphOf, numberFrom, number, allDigits, byteOf}
+use Rattle.script.specs.Text.{hexValue, glyphOf, numberFrom, number, allDigits, byteOf, bytesOf}
 use Rattle.script.specs.Text.{decimalOf as read}
 use Rattle.script.specs.declared.numbers.DecimalWord.the-variants.{Value}
-use Rattle.script.specs.Reading.{bytesOf}
 use Rattle.console.specs.Spelling.{hexOf, placesOf, widthOf, decimalOf, decimal-length}
 use Rattle.console.proofs.Widths.{places-none, places-more}
 

@@ -5,18 +5,18 @@ ghost use lib.ListN.{length};
 ghost use Rattle.console.specs.Puts.{Puts};
 ghost use Rattle.console.specs.Spelling.{lined};
 ghost use Rattle.remarks.specs.Remarks.{kindOf, whyOf, toldOf, shownOf, spacedOf, notUnderstood, recordMeans, telegramMeans, refusalOf};
+use arguments::DOES_NOT_FIT;
+use arguments::NO_DECIMAL;
+use arguments::NO_HEX;
+use arguments::ODD_HEX;
+use arguments::TOO_LONG;
+use arguments::UNKNOWN_WORD;
+use arguments::WORD_MISSING;
+use arguments::WORD_TOO_MANY;
+use arguments::WRONG_HEX;
 use console::input::MAX_LINE;
 use console::output::Output;
 use console::output::SPACE;
-use script::arguments::DOES_NOT_FIT;
-use script::arguments::NO_DECIMAL;
-use script::arguments::NO_HEX;
-use script::arguments::ODD_HEX;
-use script::arguments::TOO_LONG;
-use script::arguments::UNKNOWN_WORD;
-use script::arguments::WORD_MISSING;
-use script::arguments::WORD_TOO_MANY;
-use script::arguments::WRONG_HEX;
 use script::words;
 
 // How much of a too long line is written back.

@@ -7,6 +7,7 @@ mod show;
 
 ghost use Rattle.registry.specs.View.{viewOf};
 ghost use Rattle.registry.specs.Outcome.{Reached};
+use arguments::TOO_LONG;
 use command::Command;
 use command::MAX_RECORD;
 use command::MAX_ROOM;
@@ -17,7 +18,6 @@ use console::output::Output;
 use console::output::SPACE;
 use registry::image::RegistryImage;
 use remarks::LineKind;
-use script::arguments::TOO_LONG;
 use script::numbers::smaller;
 
 // L of the picture at the start.

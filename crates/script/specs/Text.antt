@@ -72,3 +72,9 @@ decimalOf word limit =
 -- two hexadecimal digits are a byte
 unfoldable pub byteOf : ℕ → ℕ → ℕ
 byteOf high low = number 16 (high ∷ low ∷ []) % 256
+
+-- each group whole bytes: the bytes of a group
+unfoldable pub bytesOf : List ℕ → List ℕ
+bytesOf [] = []
+bytesOf (x ∷ []) = []
+bytesOf (x ∷ y ∷ rest) = byteOf x y ∷ bytesOf rest

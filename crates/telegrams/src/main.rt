@@ -3,6 +3,7 @@ mod command;
 mod fields;
 mod help;
 
+use arguments::TOO_LONG;
 use command::Command;
 use command::MAX_BUFFER;
 use command::MAX_PAYLOAD;
@@ -15,7 +16,6 @@ use console::output::SPACE;
 use reassembly::JoinAnswer;
 use reassembly::Reassembly;
 use remarks::LineKind;
-use script::arguments::TOO_LONG;
 use script::numbers::smaller;
 
 // How many bytes the payload has, the join state, and what is written.

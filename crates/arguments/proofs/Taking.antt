@@ -7,10 +7,10 @@ use native.Mathlib.Omega.{arith}
 use borrow.Author.Tests.{lt-ltb, le-ltb, eq-eqb, ne-eqb}
 use lib.ListN.{length, drop, take}
 use Rattle.laws.specs.Bools.{cond-true, cond-false}
 use Rattle.script.specs.Text.{blanks, glyphs, allDigits, number, decimalOf}
-use Rattle.script.specs.Reading.{understood, wordMissing, noHex, wrongHex, wordTooMany, found, none, behind, startOf, wordOf, endOf, needed, decimalFound, decimalAt, hexFound, hexAt, endAt}
+use Rattle.arguments.specs.Reading.{understood, wordMissing, noHex, wrongHex, wordTooMany, found, none, behind, startOf, wordOf, endOf, needed, decimalFound, decimalAt, hexFound, hexAt, endAt}
 use Rattle.script.specs.declared.numbers.DecimalWord.{DecimalWord}
-use Rattle.script.specs.declared.arguments.Argument.{Argument}
+use Rattle.arguments.specs.declared.Argument.{Argument}
 
 module _ (a next : Argument) where
   -- what is behind a wrong argument is passed over

@@ -12,10 +12,10 @@ use lib.Seq.{sets, drop-drop}
 use Rattle.laws.specs.Bools.{cond-true, cond-false}
 use Rattle.laws.specs.Buffers.{Wrote, Owes, owes-start, owes-on, owes-end}
 use Rattle.laws.specs.Runs.{leading, leading-again}
-use Rattle.script.specs.Text.{isBlank, blanks, glyphs, allDigits, byteOf}
-use Rattle.script.specs.Reading.{understood, noHex, oddHex, found, none, wordsFrom, wordsOf, bytesOf, groupReason, groupsBytes, groupsReason, bytesFound, bytesAt, bytesStored}
-use Rattle.script.specs.declared.arguments.Argument.{Argument}
-use Rattle.script.proofs.Taking.{behind-right}
+use Rattle.script.specs.Text.{isBlank, blanks, glyphs, allDigits, byteOf, bytesOf}
+use Rattle.arguments.specs.Reading.{understood, noHex, oddHex, found, none, wordsFrom, wordsOf, groupReason, groupsBytes, groupsReason, bytesFound, bytesAt, bytesStored}
+use Rattle.arguments.specs.declared.Argument.{Argument}
+use Rattle.arguments.proofs.Taking.{behind-right}
 
 -- blanks before a word do no harm
 words-skip : (xs : List ℕ) → wordsOf (drop (blanks xs) xs) ≡ wordsOf xs

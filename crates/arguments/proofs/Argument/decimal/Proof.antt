@@ -1,10 +1,10 @@
 -- A wrong argument stays; a word is missing, is no number, does not fit, or is the number.
 use mathlib.Core.Path.{sym, _∙_}
-use Rattle.script.specs.Reading.{decimalAt}
-use Rattle.script.proofs.Taking.{behind-wrong, missing, decimal-read}
+use Rattle.arguments.specs.Reading.{decimalAt}
+use Rattle.arguments.proofs.Taking.{behind-wrong, missing, decimal-read}
 use borrow.Author.Needs.{needs}
-use Rattle.script.proofs.arguments.Argument.decimal.Statement.{statement}
-use Rattle.script.proofs.arguments.Argument.decimal.Tie as tie
+use Rattle.arguments.proofs.Argument.decimal.Statement.{statement}
+use Rattle.arguments.proofs.Argument.decimal.Tie as tie
 
 returns : tie.Need-returns
 unfolding decimalAt

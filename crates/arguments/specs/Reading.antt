@@ -4,10 +4,10 @@ use mathlib.Core.Bool.{cond}
 use mathlib.Core.List.{List, [], _∷_, _++_}
 use lib.Dec.{eqb, ltb}
 use lib.ListN.{length, drop, take}
-use Rattle.script.specs.Text.{isBlank, blanks, glyphs, allDigits, number, decimalOf, byteOf}
+use Rattle.script.specs.Text.{isBlank, blanks, glyphs, allDigits, number, decimalOf, bytesOf}
 use Rattle.script.specs.declared.numbers.DecimalWord.{DecimalWord}
 use Rattle.script.specs.declared.numbers.DecimalWord.the-variants.{NoNumber, TooLarge, Value}
-use Rattle.script.specs.declared.arguments.Argument.{Argument}
+use Rattle.arguments.specs.declared.Argument.{Argument}
 
 -- the reasons, by their place in the table; 0 where there is none
 abbrev pub understood : ℕ
@@ -88,12 +88,7 @@ wordsFrom taken (x ∷ xs) = cond (isBlank x) (ended taken (wordsFrom [] xs)) (w
 abbrev pub wordsOf : List ℕ → List (List ℕ)
 wordsOf text = wordsFrom [] text
 
--- each group whole bytes: the bytes of a group, and why it has none
-unfoldable pub bytesOf : List ℕ → List ℕ
-bytesOf [] = []
-bytesOf (x ∷ []) = []
-bytesOf (x ∷ y ∷ rest) = byteOf x y ∷ bytesOf rest
-
+-- each group whole bytes: why a group has none
 unfoldable pub groupReason : List ℕ → ℕ
 groupReason group = cond (allDigits 16 group) (cond (eqb (length group % 2) 0) understood oddHex) noHex
 

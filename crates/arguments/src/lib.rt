@@ -4,10 +4,11 @@ ghost use Prim.Native.Nat.{_+_, _<_};
 ghost use lib.ListN.{length, set};
 ghost use lib.Seq.{sets};
 ghost use Rattle.laws.specs.Buffers.{Wrote};
-ghost use Rattle.script.specs.Reading.{found, none, decimalAt, hexAt, bytesOf, groupReason, bytesAt, bytesStored, endAt};
-use super::numbers;
-use super::numbers::DecimalWord;
-use super::words;
+ghost use Rattle.script.specs.Text.{bytesOf};
+ghost use Rattle.arguments.specs.Reading.{found, none, decimalAt, hexAt, groupReason, bytesAt, bytesStored, endAt};
+use script::numbers;
+use script::numbers::DecimalWord;
+use script::words;
 
 // Why a line is not understood; 0 where it is.
 pub const UNDERSTOOD: u8 = 0;

@@ -2,8 +2,8 @@
 use mathlib.Core.Path.{sym}
 use lib.Seq.{set-out}
 use borrow.Author.Needs.{needs}
-use Rattle.script.proofs.arguments.put.Statement.{statement}
-use Rattle.script.proofs.arguments.put.Tie as tie
+use Rattle.arguments.proofs.put.Statement.{statement}
+use Rattle.arguments.proofs.put.Tie as tie
 
 slice-write-bytes : tie.Need-slice-write-bytes
 slice-write-bytes c = search needs

@@ -1,11 +1,11 @@
 -- A wrong argument stays; a word is missing, is not hexadecimal, has another length, or is the number.
 use mathlib.Core.Path.{sym, _∙_}
 use Rattle.laws.specs.Bools.{not-true, not-false}
-use Rattle.script.specs.Reading.{hexAt}
-use Rattle.script.proofs.Taking.{behind-wrong, missing, hex-none, hex-wrong, hex-right}
+use Rattle.arguments.specs.Reading.{hexAt}
+use Rattle.arguments.proofs.Taking.{behind-wrong, missing, hex-none, hex-wrong, hex-right}
 use borrow.Author.Needs.{needs}
-use Rattle.script.proofs.arguments.Argument.hex.Statement.{statement}
-use Rattle.script.proofs.arguments.Argument.hex.Tie as tie
+use Rattle.arguments.proofs.Argument.hex.Statement.{statement}
+use Rattle.arguments.proofs.Argument.hex.Tie as tie
 
 returns : tie.Need-returns
 unfolding hexAt

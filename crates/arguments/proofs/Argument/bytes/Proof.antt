@@ -3,13 +3,13 @@ use Prim.Native.Nat.{_-_}
 use mathlib.Core.Path.{sym, _∙_}
 use lib.ListN.{length}
 use Rattle.laws.specs.Buffers.{owes-length}
-use Rattle.script.specs.Reading.{bytesAt}
-use Rattle.script.proofs.Taking.{behind-wrong}
-use Rattle.script.proofs.Groups.{Left, left-start, left-on, left-done, left-refused, group-some, stored-none}
+use Rattle.arguments.specs.Reading.{bytesAt}
+use Rattle.arguments.proofs.Taking.{behind-wrong}
+use Rattle.arguments.proofs.Groups.{Left, left-start, left-on, left-done, left-refused, group-some, stored-none}
 use borrow.Author.Needs.{needs}
 use native.Mathlib.Omega.{arith}
-use Rattle.script.proofs.arguments.Argument.bytes.Statement.{statement}
-use Rattle.script.proofs.arguments.Argument.bytes.Tie as tie
+use Rattle.arguments.proofs.Argument.bytes.Statement.{statement}
+use Rattle.arguments.proofs.Argument.bytes.Tie as tie
 
 abbrev Inv-loop : tie.InvT-loop
 Inv-loop line bytes₀ start₀ count₀ bytes start count = Left line start₀ bytes₀ start count bytes

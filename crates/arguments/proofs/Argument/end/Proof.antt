@@ -1,10 +1,10 @@
 -- A wrong argument stays; a word is too many, or there is none.
 use mathlib.Core.Path.{sym, _∙_}
-use Rattle.script.specs.Reading.{endAt}
-use Rattle.script.proofs.Taking.{behind-wrong, end-right, end-too-many}
+use Rattle.arguments.specs.Reading.{endAt}
+use Rattle.arguments.proofs.Taking.{behind-wrong, end-right, end-too-many}
 use borrow.Author.Needs.{needs}
-use Rattle.script.proofs.arguments.Argument.end.Statement.{statement}
-use Rattle.script.proofs.arguments.Argument.end.Tie as tie
+use Rattle.arguments.proofs.Argument.end.Statement.{statement}
+use Rattle.arguments.proofs.Argument.end.Tie as tie
 
 returns : tie.Need-returns
 unfolding endAt

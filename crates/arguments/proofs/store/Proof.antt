@@ -5,13 +5,12 @@ use mathlib.Core.List.{[], _∷_}
 use lib.ListN.{length, drop, length-drop, getD, set}
 use Rattle.laws.specs.Buffers.{Owes, owes-start, owes-on, owes-end, owes-length}
 use Rattle.laws.specs.Runs.{drop-two}
-use Rattle.script.specs.Text.{byteOf}
-use Rattle.script.specs.Reading.{bytesOf}
-use Rattle.script.proofs.Groups.{bytes-two, bytes-none}
+use Rattle.script.specs.Text.{byteOf, bytesOf}
+use Rattle.arguments.proofs.Groups.{bytes-two, bytes-none}
 use borrow.Author.Needs.{needs}
 use native.Mathlib.Omega.{arith}
-use Rattle.script.proofs.arguments.store.Statement.{statement}
-use Rattle.script.proofs.arguments.store.Tie as tie
+use Rattle.arguments.proofs.store.Statement.{statement}
+use Rattle.arguments.proofs.store.Tie as tie
 
 abbrev Inv-loop : tie.InvT-loop
 Inv-loop group bytes₀ from at₀ i₀ bytes at i = (i ≤ length group) × (at ≤ from + i) × Owes bytes₀ from (bytesOf group) at bytes (bytesOf (drop i group))

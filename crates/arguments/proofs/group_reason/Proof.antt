@@ -1,10 +1,10 @@
 -- A group has another byte, an odd number of digits, or whole bytes.
 use mathlib.Core.Path.{sym, _∙_}
 use Rattle.laws.specs.Bools.{not-true, not-false}
-use Rattle.script.proofs.Groups.{group-none, group-odd, group-whole}
+use Rattle.arguments.proofs.Groups.{group-none, group-odd, group-whole}
 use borrow.Author.Needs.{needs}
-use Rattle.script.proofs.arguments.group_reason.Statement.{statement}
-use Rattle.script.proofs.arguments.group_reason.Tie as tie
+use Rattle.arguments.proofs.group_reason.Statement.{statement}
+use Rattle.arguments.proofs.group_reason.Tie as tie
 
 all-hex-requires : tie.Need-all-hex-requires
 all-hex-requires c κs = search needs

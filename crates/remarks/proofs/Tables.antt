@@ -9,11 +9,11 @@ use borrow.Author.Tests.{lt-ltb, le-ltb, eq-eqb, ne-eqb, eqb-false}
 use lib.Dec.{eqb}
 use lib.ListN.{length, take}
 use Rattle.laws.specs.Bools.{cond-true, cond-false, or-false, or-true-left, or-true-right}
-use Rattle.console.specs.declared.output.Output.{Output}
-use Rattle.console.specs.Puts.{Puts}
-use Rattle.console.specs.Putting.{puts-along}
-use Rattle.console.specs.Spelling.{lined, decimalOf, valueOf, filledFrom, filled}
-use Rattle.console.specs.Texts.{codes}
+use Rattle.output.specs.declared.Output.{Output}
+use Rattle.output.specs.Puts.{Puts}
+use Rattle.output.specs.Putting.{puts-along}
+use Rattle.output.specs.Spelling.{lined, decimalOf, valueOf, filledFrom, filled}
+use Rattle.output.specs.Texts.{codes}
 use Rattle.remarks.specs.Remarks.{kindOf, beside, whyOf, toldOf, shownOf, spacedOf, commentOf, notUnderstood, recordMeans, telegramMeans, meaning, refusalOf}
 use Rattle.remarks.specs.declared.LineKind.the-variants.{Remark, EarlierAnswer, Offer}
 

@@ -7,9 +7,9 @@ use mathlib.Core.List.{List, [], _∷_, _++_}
 use lib.Dec.{eqb, ltb}
 use lib.ListN.{length, take}
 use Rattle.script.specs.Text.{trimmedLength}
-use Rattle.console.specs.Lines.{maxLine}
-use Rattle.console.specs.Spelling.{lined, decimalOf}
-use Rattle.console.specs.Texts.{codes}
+use Rattle.input.specs.Lines.{maxLine}
+use Rattle.output.specs.Spelling.{lined, decimalOf}
+use Rattle.output.specs.Texts.{codes}
 use Rattle.remarks.specs.declared.LineKind.{LineKind}
 use Rattle.remarks.specs.declared.LineKind.the-variants.{Remark, EarlierAnswer, Offer}
 

@@ -2,8 +2,8 @@
 ghost use mathlib.Core.Path.{_≡_};
 ghost use Prim.Native.Nat.{_≤_};
 ghost use lib.ListN.{length};
-ghost use Rattle.console.specs.Puts.{Puts};
-ghost use Rattle.console.specs.Spelling.{lined};
+ghost use Rattle.output.specs.Puts.{Puts};
+ghost use Rattle.output.specs.Spelling.{lined};
 ghost use Rattle.remarks.specs.Remarks.{kindOf, whyOf, toldOf, shownOf, spacedOf, notUnderstood, recordMeans, telegramMeans, refusalOf};
 use arguments::DOES_NOT_FIT;
 use arguments::NO_DECIMAL;
@@ -14,9 +14,9 @@ use arguments::UNKNOWN_WORD;
 use arguments::WORD_MISSING;
 use arguments::WORD_TOO_MANY;
 use arguments::WRONG_HEX;
-use console::input::MAX_LINE;
-use console::output::Output;
-use console::output::SPACE;
+use input::MAX_LINE;
+use output::Output;
+use output::SPACE;
 use script::words;
 
 // How much of a too long line is written back.

@@ -1,5 +1,5 @@
 -- The comment's parts, one after the other.
-use Rattle.console.specs.Putting.{puts-append, puts-along}
+use Rattle.output.specs.Putting.{puts-append, puts-along}
 use Rattle.remarks.proofs.Tables.{comment-is}
 use borrow.Author.Needs.{needs}
 use Rattle.remarks.proofs.not_understood.Statement.{statement}

@@ -1,6 +1,5 @@
--- Words by a number, a line's kind by its first byte, and the parts of what is said.
+-- A line's kind by its first byte, and the parts of what is said.
 use Prim.Native.Nat.{ℕ, _-_, _≤_, _<_}
-use Prim.Native.String.{String}
 use mathlib.Core.Path.{_≡_, refl, sym, _∙_, ap}
 use mathlib.Core.Bool.{Bool, true, false, cond, _||_}
 use mathlib.Core.List.{List, [], _∷_, _++_}
@@ -9,34 +8,11 @@ use borrow.Author.Tests.{lt-ltb, le-ltb, eq-eqb, ne-eqb, eqb-false}
 use lib.Dec.{eqb}
 use lib.ListN.{length, take}
 use Rattle.laws.specs.Bools.{cond-true, cond-false, or-false, or-true-left, or-true-right}
-use Rattle.output.specs.declared.Output.{Output}
-use Rattle.output.specs.Puts.{Puts}
-use Rattle.output.specs.Putting.{puts-along}
 use Rattle.output.specs.Spelling.{lined, decimalOf, valueOf, filledFrom, filled}
 use Rattle.output.specs.Texts.{codes}
-use Rattle.remarks.specs.Remarks.{kindOf, beside, whyOf, toldOf, shownOf, spacedOf, commentOf, notUnderstood, recordMeans, telegramMeans, meaning, refusalOf}
+use Rattle.wording.specs.Wording.{whyOf, recordMeans, telegramMeans}
+use Rattle.remarks.specs.Remarks.{kindOf, toldOf, shownOf, spacedOf, commentOf, notUnderstood, meaning, refusalOf}
 use Rattle.remarks.specs.declared.LineKind.the-variants.{Remark, EarlierAnswer, Offer}
-
--- a number is in no row of a table; N is what is known besides
-abbrev pub Passed : Type 0 → List (ℕ × String) → ℕ → Type 0
-Passed N [] n = N
-Passed N (row ∷ rows) n = Passed (N × (n ≡ row .0 → ⊥)) rows n
-
-passed : (N : Type 0) (rows : List (ℕ × String)) (other : String) (n : ℕ) → Passed N rows n → N × (beside rows other n ≡ codes other)
-unfolding beside
-passed N [] other n h = (h, refl)
-passed N (row ∷ rows) other n h =
-    let r = passed (N × (n ≡ row .0 → ⊥)) rows other n h in
-    (r .0 .0, cond-false _ _ (ne-eqb n (row .0) (r .0 .1)) ∙ r .1)
-
-module _ {o p : Output} {t u : List ℕ} where
-  -- the words of a number's row, and those for a number without one
-  pub puts-row : (f : ℕ → List ℕ) {n k : ℕ} → n ≡ k → Puts o t (lined (f k)) p u → Puts o t (lined (f n)) p u
-  puts-row f e h = puts-along (ap (λ (m : ℕ). lined (f m)) (sym e)) h
-
-  pub puts-other : (rows : List (ℕ × String)) (other : String) (n : ℕ) → Passed (Unit {0}) rows n → Puts o t (lined (codes other)) p u
-      → Puts o t (lined (beside rows other n)) p u
-  puts-other rows other n a h = puts-along (ap lined (sym (passed (Unit {0}) rows other n a .1))) h
 
 -- a line without a byte, and one with a first byte: a remark, an earlier answer, an offer
 pub kind-empty : (xs : List ℕ) → length xs ≡ 0 → Remark ≡ kindOf xs

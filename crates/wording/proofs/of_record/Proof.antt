@@ -1,9 +1,9 @@
 -- Each number's row of the table, and the words for any other number.
-use Rattle.remarks.specs.Remarks.{reasons, whyOf, beside}
-use Rattle.remarks.proofs.Tables.{puts-row, puts-other}
+use Rattle.wording.specs.Wording.{ofRecords, recordMeans, beside}
+use Rattle.wording.proofs.Tables.{puts-row, puts-other}
 use borrow.Author.Needs.{needs}
-use Rattle.remarks.proofs.why.Statement.{statement}
-use Rattle.remarks.proofs.why.Tie as tie
+use Rattle.wording.proofs.of_record.Statement.{statement}
+use Rattle.wording.proofs.of_record.Tie as tie
 
 slice-aggregate-line : tie.Need-slice-aggregate-line
 slice-aggregate-line c = search needs
@@ -60,43 +60,43 @@ line-requires-9 : tie.Need-line-requires-9
 line-requires-9 c κs = search needs
 
 returns : tie.Need-returns
-unfolding reasons beside
-returns c = puts-row whyOf (c .before .before .before .match .keys1) (c .line .ensures)
+unfolding ofRecords beside
+returns c = puts-row recordMeans (c .before .before .before .match .keys1) (c .line .ensures)
 
 returns-2 : tie.Need-returns-2
-unfolding reasons beside
-returns-2 c = puts-row whyOf (c .before .before .before .match .keys2) (c .line2 .ensures)
+unfolding ofRecords beside
+returns-2 c = puts-row recordMeans (c .before .before .before .match .keys2) (c .line2 .ensures)
 
 returns-3 : tie.Need-returns-3
-unfolding reasons beside
-returns-3 c = puts-row whyOf (c .before .before .before .match .keys3) (c .line3 .ensures)
+unfolding ofRecords beside
+returns-3 c = puts-row recordMeans (c .before .before .before .match .keys3) (c .line3 .ensures)
 
 returns-4 : tie.Need-returns-4
-unfolding reasons beside
-returns-4 c = puts-row whyOf (c .before .before .before .match .keys4) (c .line4 .ensures)
+unfolding ofRecords beside
+returns-4 c = puts-row recordMeans (c .before .before .before .match .keys4) (c .line4 .ensures)
 
 returns-5 : tie.Need-returns-5
-unfolding reasons beside
-returns-5 c = puts-row whyOf (c .before .before .before .match .keys5) (c .line5 .ensures)
+unfolding ofRecords beside
+returns-5 c = puts-row recordMeans (c .before .before .before .match .keys5) (c .line5 .ensures)
 
 returns-6 : tie.Need-returns-6
-unfolding reasons beside
-returns-6 c = puts-row whyOf (c .before .before .before .match .keys6) (c .line6 .ensures)
+unfolding ofRecords beside
+returns-6 c = puts-row recordMeans (c .before .before .before .match .keys6) (c .line6 .ensures)
 
 returns-7 : tie.Need-returns-7
-unfolding reasons beside
-returns-7 c = puts-row whyOf (c .before .before .before .match .keys7) (c .line7 .ensures)
+unfolding ofRecords beside
+returns-7 c = puts-row recordMeans (c .before .before .before .match .keys7) (c .line7 .ensures)
 
 returns-8 : tie.Need-returns-8
-unfolding reasons beside
-returns-8 c = puts-row whyOf (c .before .before .before .match .keys8) (c .line8 .ensures)
+unfolding ofRecords beside
+returns-8 c = puts-row recordMeans (c .before .before .before .match .keys8) (c .line8 .ensures)
 
 returns-9 : tie.Need-returns-9
-unfolding reasons
-returns-9 c = puts-other reasons _ _ (c .before .before .before .match .rest) (c .line9 .ensures)
+unfolding ofRecords
+returns-9 c = puts-other ofRecords _ _ (c .before .before .before .match .rest) (c .line9 .ensures)
 
-pub why-spec : {M : Type 1} → statement M
-why-spec =
+pub of-record-spec : {M : Type 1} → statement M
+of-record-spec =
     tie.close
     (tie.spec
     slice-aggregate-line

@@ -2,9 +2,10 @@
 use mathlib.Core.Path.{_≡_, refl}
 use Rattle.script.specs.Text.{isBlank, isDropped, trimmedLength}
 use Rattle.laws.specs.Runs.{leading}
-use Rattle.console.specs.Texts.{codes}
-use Rattle.console.specs.Spelling.{placesBy, widthOf, decimalOf}
-use Rattle.remarks.specs.Remarks.{beside, reasons, toldOf, shownOf, spacedOf, commentOf, notUnderstood, ofRecords, ofTelegrams, meaning, refusalOf}
+use Rattle.output.specs.Texts.{codes}
+use Rattle.output.specs.Spelling.{placesBy, widthOf, decimalOf}
+use Rattle.wording.specs.Wording.{beside, reasons, ofRecords, ofTelegrams}
+use Rattle.remarks.specs.Remarks.{toldOf, shownOf, spacedOf, commentOf, notUnderstood, meaning, refusalOf}
 
 unknown : notUnderstood (codes "hello there") 1 ≡ codes "# hello there\n# not understood: unknown word\n"
 unfolding commentOf toldOf shownOf spacedOf beside reasons

@@ -1,3 +1,3 @@
 -- Laws that the functions' proofs use, and values worked out.
-pub mod Tables
+pub mod Parts
 pub mod Examples

@@ -1,8 +1,8 @@
 // The commands of a ring script.
-use script::arguments::ANY;
-use script::arguments::Argument;
-use script::arguments::UNDERSTOOD;
-use script::arguments::UNKNOWN_WORD;
+use arguments::ANY;
+use arguments::Argument;
+use arguments::UNDERSTOOD;
+use arguments::UNKNOWN_WORD;
 use script::words;
 
 // The longest record that a line can hold, and the most order room, which is lent at the start.

@@ -1,8 +1,8 @@
 // Records and orders in hexadecimal, with a blank between their fields.
 ghost use Prim.Native.Nat.{_≤_};
-use console::input::MAX_LINE;
-use console::output::Output;
-use console::output::SPACE;
+use input::MAX_LINE;
+use output::Output;
+use output::SPACE;
 
 // Kinds whose records or orders have more fields than the pass.
 const ANSWER: u8 = 4;

@@ -7,17 +7,17 @@ mod show;
 
 ghost use Rattle.registry.specs.View.{viewOf};
 ghost use Rattle.registry.specs.Outcome.{Reached};
+use arguments::TOO_LONG;
 use command::Command;
 use command::MAX_RECORD;
 use command::MAX_ROOM;
-use console::input::CHUNK;
-use console::input::Input;
-use console::input::MAX_LINE;
-use console::output::Output;
-use console::output::SPACE;
+use input::CHUNK;
+use input::Input;
+use input::MAX_LINE;
+use output::Output;
+use output::SPACE;
 use registry::image::RegistryImage;
 use remarks::LineKind;
-use script::arguments::TOO_LONG;
 use script::numbers::smaller;
 
 // L of the picture at the start.

@@ -2,8 +2,8 @@
 ghost use Prim.Native.Nat.{_≤_, _<_};
 ghost use lib.ListN.{length};
 use super::fields;
-use console::output::Output;
-use console::output::SPACE;
+use output::Output;
+use output::SPACE;
 
 // The kinds of orders.
 const ASK: u8 = 1;

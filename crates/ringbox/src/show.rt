@@ -2,8 +2,6 @@
 use super::order_lines;
 use closing::state::OFF;
 use closing::state::OK;
-use console::output::Output;
-use console::output::SPACE;
 use listing::find::Lookup;
 use listing::flat::Listing;
 use listing::flat::MAX_LISTED;
@@ -14,6 +12,8 @@ use node::entry::NodeEntry;
 use node::entry::SETTING;
 use node::entry::SILENT;
 use node::pairs::Pairs;
+use output::Output;
+use output::SPACE;
 use registry::image::RegistryImage;
 
 fn state_name(output: Output, text: &mut [u8; SPACE], state: u8) -> Output {

@@ -12,6 +12,10 @@ use Rattle.script.specs.declared.numbers.DecimalWord.the-variants.{NoNum
 unfoldable pub isBlank : ℕ → Bool
 isBlank b = eqb b 32 || eqb b 9
 
+-- a line ends at an LF
+abbrev pub lf : ℕ
+lf = 10
+
 -- blanks and CRs at the end of a line are dropped
 unfoldable pub isDropped : ℕ → Bool
 isDropped b = eqb b 13 || isBlank b
@@ -72,3 +76,9 @@ decimalOf word limit =
 -- two hexadecimal digits are a byte
 unfoldable pub byteOf : ℕ → ℕ → ℕ
 byteOf high low = number 16 (high ∷ low ∷ []) % 256
+
+-- each group whole bytes: the bytes of a group
+unfoldable pub bytesOf : List ℕ → List ℕ
+bytesOf [] = []
+bytesOf (x ∷ []) = []
+bytesOf (x ∷ y ∷ rest) = byteOf x y ∷ bytesOf rest

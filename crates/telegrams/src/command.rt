@@ -1,8 +1,8 @@
 // The commands of a telegram script.
-use script::arguments::ANY;
-use script::arguments::Argument;
-use script::arguments::UNDERSTOOD;
-use script::arguments::UNKNOWN_WORD;
+use arguments::ANY;
+use arguments::Argument;
+use arguments::UNDERSTOOD;
+use arguments::UNKNOWN_WORD;
 use script::words;
 
 // The sizes of the buffers: payload, and the bytes of a telegram that a line can hold.

@@ -1,8 +1,8 @@
 // Telegrams and messages in hexadecimal.
 ghost use Prim.Native.Nat.{_≤_, _<_};
-use console::input::MAX_LINE;
-use console::output::Output;
-use console::output::SPACE;
+use input::MAX_LINE;
+use output::Output;
+use output::SPACE;
 
 // How many bytes of a message stand on a line.
 const WIDTH: usize = 32;

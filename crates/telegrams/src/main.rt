@@ -3,19 +3,19 @@ mod command;
 mod fields;
 mod help;
 
+use arguments::TOO_LONG;
 use command::Command;
 use command::MAX_BUFFER;
 use command::MAX_PAYLOAD;
 use command::MAX_TELEGRAM;
-use console::input::CHUNK;
-use console::input::Input;
-use console::input::MAX_LINE;
-use console::output::Output;
-use console::output::SPACE;
+use input::CHUNK;
+use input::Input;
+use input::MAX_LINE;
+use output::Output;
+use output::SPACE;
 use reassembly::JoinAnswer;
 use reassembly::Reassembly;
 use remarks::LineKind;
-use script::arguments::TOO_LONG;
 use script::numbers::smaller;
 
 // How many bytes the payload has, the join state, and what is written.

@@ -1,6 +1,6 @@
 -- The first byte tells.
 use Rattle.laws.specs.Runs.{drop-here}
-use Rattle.remarks.proofs.Tables.{kind-empty, kind-remark, kind-refused, kind-answered, kind-offer}
+use Rattle.remarks.proofs.Parts.{kind-empty, kind-remark, kind-refused, kind-answered, kind-offer}
 use native.Mathlib.Omega.{arith}
 use borrow.Author.Needs.{needs}
 use Rattle.remarks.proofs.kind_of.Statement.{statement}

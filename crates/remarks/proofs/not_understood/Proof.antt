@@ -1,6 +1,6 @@
 -- The comment's parts, one after the other.
-use Rattle.console.specs.Putting.{puts-append, puts-along}
-use Rattle.remarks.proofs.Tables.{comment-is}
+use Rattle.output.specs.Putting.{puts-append, puts-along}
+use Rattle.remarks.proofs.Parts.{comment-is}
 use borrow.Author.Needs.{needs}
 use Rattle.remarks.proofs.not_understood.Statement.{statement}
 use Rattle.remarks.proofs.not_understood.Tie as tie

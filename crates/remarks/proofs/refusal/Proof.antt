@@ -1,6 +1,6 @@
 -- The number, and then what it means.
-use Rattle.console.specs.Putting.{puts-append, puts-along}
-use Rattle.remarks.proofs.Tables.{refusal-record, refusal-telegram}
+use Rattle.output.specs.Putting.{puts-append, puts-along}
+use Rattle.remarks.proofs.Parts.{refusal-record, refusal-telegram}
 use borrow.Author.Needs.{needs}
 use Rattle.remarks.proofs.refusal.Statement.{statement}
 use Rattle.remarks.proofs.refusal.Tie as tie

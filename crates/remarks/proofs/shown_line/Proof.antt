@@ -1,6 +1,6 @@
 -- A blank stands before bytes only.
-use Rattle.console.specs.Putting.{puts-append, puts-along}
-use Rattle.remarks.proofs.Tables.{spaced-none, spaced-some}
+use Rattle.output.specs.Putting.{puts-append, puts-along}
+use Rattle.remarks.proofs.Parts.{spaced-none, spaced-some}
 use borrow.Author.Needs.{needs}
 use Rattle.remarks.proofs.shown_line.Statement.{statement}
 use Rattle.remarks.proofs.shown_line.Tie as tie

@@ -1,0 +1,4 @@
+-- Laws that the functions' proofs use, and arguments worked out.
+pub mod Taking
+pub mod Groups
+pub mod Examples

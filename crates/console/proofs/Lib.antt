@@ -1,6 +1,0 @@
--- Laws that the functions' proofs use, and values worked out.
-pub mod Widths
-pub mod Filling
-pub mod Reading
-pub mod ReadBack
-pub mod Examples

@@ -1,5 +1,0 @@
-pub mod Texts
-pub mod Puts
-pub mod Putting
-pub mod Spelling
-pub mod Lines

@@ -10,7 +10,7 @@ use lib.ListN.{length, getD, set}
 use Rattle.laws.specs.Lists.{any, collect}
 use Rattle.laws.specs.Alls.{any-append}
 use Rattle.rules.specs.Picture.{Pair, Row, samePair, holds, pairsIn}
-use Rattle.numbering.specs.Marks.{orEach}
+use Rattle.judging.specs.Marks.{orEach}
 
 -- marks, and more marks on those from j on
 unfoldable pub orFrom : ℕ → (marks more : List Bool) → List Bool

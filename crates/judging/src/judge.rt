@@ -4,7 +4,7 @@ ghost use mathlib.Core.List.{[]};
 ghost use lib.ListN.{take};
 ghost use Rattle.rules.specs.Renumber.{goods};
 ghost use Rattle.node.specs.View.{pairOf, pairsOf};
-ghost use Rattle.numbering.specs.Marks.{isGoodMarked, judgeMarked, judgedOf};
+ghost use Rattle.judging.specs.Marks.{isGoodMarked, judgeMarked, judgedOf};
 use node::pairs::Pairs;
 use node::pairs::one_if;
 

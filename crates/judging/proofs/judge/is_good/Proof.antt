@@ -1,13 +1,13 @@
 -- The tests in their order.
 use Rattle.node.specs.View.{pairOf}
-use Rattle.numbering.specs.Marks.{isGoodMarked}
+use Rattle.judging.specs.Marks.{isGoodMarked}
 use Rattle.rules.specs.Picture.{Pair, holds}
 use borrow.Author.Needs.{needs}
 use borrow.Author.Tests.{le-leb, lt-leb}
 use mathlib.Core.List.{List}
 use mathlib.Core.Path.{_∙_, ap, sym}
-use Rattle.numbering.proofs.judge.is_good.Statement.{statement}
-use Rattle.numbering.proofs.judge.is_good.Tie as tie
+use Rattle.judging.proofs.judge.is_good.Statement.{statement}
+use Rattle.judging.proofs.judge.is_good.Tie as tie
 
 returns : tie.Need-returns
 unfolding isGoodMarked pairOf

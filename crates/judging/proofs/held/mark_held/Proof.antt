@@ -2,8 +2,8 @@
 use Prim.Native.Nat.{_-_, _<_, _≤_, min}
 use Rattle.node.proofs.Arrays.{pairs-at, pairs-length}
 use Rattle.node.specs.View.{pairOf, pairsOf}
-use Rattle.numbering.proofs.Holding.{or-end, or-on, orFrom}
-use Rattle.numbering.specs.Marks.{orEach}
+use Rattle.judging.proofs.Holding.{or-end, or-on, orFrom}
+use Rattle.judging.specs.Marks.{orEach}
 use Rattle.rules.specs.Picture.{holds}
 use borrow.Author.Needs.{needs}
 use lib.ListN.{getD, length}
@@ -11,8 +11,8 @@ use mathlib.Core.Bool.{Bool, _||_}
 use mathlib.Core.List.{map}
 use mathlib.Core.Path.{_∙_, _≡_, ap, refl, sym}
 use native.Mathlib.Omega.{arith}
-use Rattle.numbering.proofs.held.mark_held.Statement.{statement}
-use Rattle.numbering.proofs.held.mark_held.Tie as tie
+use Rattle.judging.proofs.held.mark_held.Statement.{statement}
+use Rattle.judging.proofs.held.mark_held.Tie as tie
 
 abbrev Inv-loop : tie.InvT-loop
 Inv-loop marks₀ kept announced n i₀ marks i = (i ≤ n) × (length (announced .blocks) ≡ 16) × (length (announced .numbers) ≡ 16) × (orFrom i marks (map (holds (pairsOf kept)) (pairsOf announced)) ≡ orEach marks₀ (map (holds (pairsOf kept)) (pairsOf announced)))

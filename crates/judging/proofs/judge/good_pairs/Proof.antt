@@ -3,8 +3,8 @@ use Prim.Native.Nat.{_-_, _<_, _≤_}
 use Rattle.laws.specs.Views.{firsts}
 use Rattle.node.proofs.Arrays.{pairs-next}
 use Rattle.node.specs.View.{pairsFrom, pairsOf}
-use Rattle.numbering.proofs.Judging.{goods-end, goods-on, judged-at, judged-end}
-use Rattle.numbering.specs.Marks.{judgedOf}
+use Rattle.judging.proofs.Judging.{goods-end, goods-on, judged-at, judged-end}
+use Rattle.judging.specs.Marks.{judgedOf}
 use Rattle.rules.specs.Renumber.{goods}
 use borrow.Author.Needs.{needs}
 use lib.ListN.{drop, getD, length, length-set}
@@ -12,8 +12,8 @@ use mathlib.Core.Bool.{false}
 use mathlib.Core.List.{_++_}
 use mathlib.Core.Path.{_≡_, refl}
 use native.Mathlib.Omega.{arith}
-use Rattle.numbering.proofs.judge.good_pairs.Statement.{statement}
-use Rattle.numbering.proofs.judge.good_pairs.Tie as tie
+use Rattle.judging.proofs.judge.good_pairs.Statement.{statement}
+use Rattle.judging.proofs.judge.good_pairs.Tie as tie
 
 abbrev Inv-loop : tie.InvT-loop
 Inv-loop announced good n kept₀ end₀ i₀ kept end i = (i ≤ n) × (end ≤ i) × (length good ≡ 16) × (length (announced .blocks) ≡ 16) × (length (announced .numbers) ≡ 16) × (length (kept .blocks) ≡ 16) × (length (kept .numbers) ≡ 16) × (pairsFrom end (kept .blocks) (kept .numbers) ++ goods (drop i (judgedOf (pairsOf announced) good)) ≡ goods (judgedOf (pairsOf announced) good))

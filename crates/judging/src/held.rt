@@ -3,7 +3,7 @@ ghost use mathlib.Core.Path.{_≡_};
 ghost use mathlib.Core.List.{map};
 ghost use Rattle.rules.specs.Picture.{holds};
 ghost use Rattle.node.specs.View.{pairsOf};
-ghost use Rattle.numbering.specs.Marks.{orEach};
+ghost use Rattle.judging.specs.Marks.{orEach};
 use node::pairs::Pairs;
 use node::tests::either;
 

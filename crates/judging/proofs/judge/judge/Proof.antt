@@ -2,15 +2,15 @@
 use Prim.Native.Nat.{_-_, _<_, _≤_, min}
 use Rattle.node.proofs.Arrays.{pairs-at, pairs-length}
 use Rattle.node.specs.View.{pairOf, pairsOf}
-use Rattle.numbering.proofs.Judging.{judge-end, judge-on}
-use Rattle.numbering.specs.Marks.{isGoodMarked, judgeMarked, judgedOf}
+use Rattle.judging.proofs.Judging.{judge-end, judge-on}
+use Rattle.judging.specs.Marks.{isGoodMarked, judgeMarked, judgedOf}
 use borrow.Author.Needs.{needs}
 use lib.ListN.{drop, getD, length, length-set, take}
 use mathlib.Core.List.{[], _++_}
 use mathlib.Core.Path.{_∙_, _≡_, ap, refl, sym}
 use native.Mathlib.Omega.{arith}
-use Rattle.numbering.proofs.judge.judge.Statement.{statement}
-use Rattle.numbering.proofs.judge.judge.Tie as tie
+use Rattle.judging.proofs.judge.judge.Statement.{statement}
+use Rattle.judging.proofs.judge.judge.Tie as tie
 
 abbrev Inv-loop : tie.InvT-loop
 Inv-loop held announced n good₀ i₀ good i = (i ≤ n) × (length good ≡ 16) × (length held ≡ 16) × (length (announced .blocks) ≡ 16) × (length (announced .numbers) ≡ 16) × (take i (judgedOf (pairsOf announced) good) ++ judgeMarked (drop i held) (take i (pairsOf announced)) (drop i (pairsOf announced)) ≡ judgeMarked held [] (pairsOf announced))

@@ -15,7 +15,7 @@ use Rattle.rules.specs.Picture.{Pair, samePair, holds}
 use Rattle.rules.specs.Renumber.{Judged, isGood, judge, goods}
 use Rattle.node.specs.View.{pairOf, pairsFrom}
 use Rattle.node.proofs.Arrays.{pairs-at, pairs-length}
-use Rattle.numbering.specs.Marks.{orEach, isGoodMarked, judgeMarked, judgedOf}
+use Rattle.judging.specs.Marks.{orEach, isGoodMarked, judgeMarked, judgedOf}
 
 -- the judged pair at j, and those behind it
 judged-drop : (j : ℕ) (e : Pair) (d : Bool) (ps : List Pair) (gs : List Bool) → j < length ps → j < length gs

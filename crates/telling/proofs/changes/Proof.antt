@@ -2,8 +2,8 @@
 use Rattle.rules.specs.Ending.{gained, lost, missing}
 use borrow.Author.Needs.{needs}
 use mathlib.Core.Path.{_∙_}
-use Rattle.orders.proofs.told.changes.Statement.{statement}
-use Rattle.orders.proofs.told.changes.Tie as tie
+use Rattle.telling.proofs.changes.Statement.{statement}
+use Rattle.telling.proofs.changes.Tie as tie
 
 pairs-requires : tie.Need-pairs-requires
 pairs-requires c κs = search needs

@@ -1,7 +1,7 @@
 -- By which are asked.
 use borrow.Author.Needs.{needs}
-use Rattle.orders.proofs.told.is_asked.Statement.{statement}
-use Rattle.orders.proofs.told.is_asked.Tie as tie
+use Rattle.telling.proofs.is_asked.Statement.{statement}
+use Rattle.telling.proofs.is_asked.Tie as tie
 
 enum-told : tie.Need-enum-told
 enum-told c = search needs

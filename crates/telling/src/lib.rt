@@ -8,14 +8,15 @@ ghost use Rattle.rules.specs.Order.{encodeAll};
 ghost use Rattle.rules.specs.Step.{asks};
 ghost use Rattle.rules.specs.Ending.{tell, tellRows};
 ghost use Rattle.node.specs.View.{pairsOf, rowOf, rowsOf};
-ghost use Rattle.orders.specs.View.{deltaOf, whichOf, changesOf};
-use super::order::Delta;
-use super::order::write_ask;
-use super::order::write_delta;
+ghost use Rattle.orders.specs.View.{deltaOf};
+ghost use Rattle.telling.specs.View.{whichOf, changesOf};
 use node::address::NodePosition;
 use node::entry::NodeEntry;
 use node::entry::clamp;
 use node::pairs::Pairs;
+use orders::order::Delta;
+use orders::order::write_ask;
+use orders::order::write_delta;
 
 // The entries that are asked: those whose question is open, or the SILENT ones.
 pub enum Which {

@@ -1,14 +1,14 @@
 -- By whether the entry is asked.
 use Rattle.laws.specs.Buffers.{wrote-along, wrote-nothing}
 use Rattle.node.specs.View.{rowOf}
-use Rattle.orders.proofs.Tellings.{asks-none, asks-one}
-use Rattle.orders.specs.View.{whichOf}
+use Rattle.telling.proofs.Tellings.{asks-none, asks-one}
+use Rattle.telling.specs.View.{whichOf}
 use borrow.Author.Needs.{needs}
 use lib.ListN.{length}
 use mathlib.Core.Path.{_∙_, ap, sym}
 use native.Mathlib.Omega.{arith}
-use Rattle.orders.proofs.told.write_ask_if.Statement.{statement}
-use Rattle.orders.proofs.told.write_ask_if.Tie as tie
+use Rattle.telling.proofs.write_ask_if.Statement.{statement}
+use Rattle.telling.proofs.write_ask_if.Tie as tie
 
 is-asked-requires : tie.Need-is-asked-requires
 is-asked-requires c κs = search needs

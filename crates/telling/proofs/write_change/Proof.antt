@@ -1,14 +1,14 @@
 -- The pairs that have changed.
 use Rattle.rules.specs.Picture.{Pair}
 use Rattle.laws.specs.Buffers.{wrote-along}
 use Rattle.orders.specs.View.{deltaOf}
 use Rattle.rules.specs.Ending.{tell}
 use Rattle.rules.specs.Order.{encodeAll}
 use borrow.Author.Needs.{needs}
 use mathlib.Core.List.{List}
 use mathlib.Core.Path.{ap}
-use Rattle.orders.proofs.told.write_change.Statement.{statement}
-use Rattle.orders.proofs.told.write_change.Tie as tie
+use Rattle.telling.proofs.write_change.Statement.{statement}
+use Rattle.telling.proofs.write_change.Tie as tie
 
 changes-requires : tie.Need-changes-requires
 changes-requires c κs = search needs

@@ -3,16 +3,17 @@ use Prim.Native.Nat.{_-_, _≤_}
 use Rattle.laws.specs.Buffers.{Owes, owes-end, owes-start}
 use Rattle.node.proofs.Arrays.{rows-here, rows-past}
 use Rattle.node.specs.View.{rowsOf}
-use Rattle.orders.proofs.Tellings.{rows-end, rows-room, rows-turn}
-use Rattle.orders.specs.View.{changesOf, deltaOf}
+use Rattle.telling.proofs.Tellings.{rows-end, rows-room, rows-turn}
+use Rattle.orders.specs.View.{deltaOf}
+use Rattle.telling.specs.View.{changesOf}
 use Rattle.rules.specs.Ending.{tellRows}
 use Rattle.rules.specs.Order.{encodeAll}
 use borrow.Author.Needs.{needs}
 use lib.ListN.{drop, length}
 use mathlib.Core.Path.{_∙_, _≡_, refl}
 use native.Mathlib.Omega.{arith}
-use Rattle.orders.proofs.told.write_changes.Statement.{statement}
-use Rattle.orders.proofs.told.write_changes.Tie as tie
+use Rattle.telling.proofs.write_changes.Statement.{statement}
+use Rattle.telling.proofs.write_changes.Tie as tie
 
 abbrev Inv-loop : tie.InvT-loop
 Inv-loop out₀ at pass delta size count before after n end₀ i₀ out end i = (i ≤ n) × (length out ≡ length out₀) × (length before ≡ 63) × (length after ≡ 63) × Owes out₀ at (encodeAll pass (tellRows (deltaOf delta) (changesOf delta) size (rowsOf count before) (rowsOf count after))) end out (encodeAll pass (tellRows (deltaOf delta) (changesOf delta) size (drop i (rowsOf count before)) (drop i (rowsOf count after))))

@@ -3,16 +3,16 @@ use Prim.Native.Nat.{_+_, _-_, _≤_}
 use Rattle.laws.specs.Buffers.{Owes, owes-end, owes-start}
 use Rattle.node.proofs.Arrays.{rows-here, rows-past}
 use Rattle.node.specs.View.{rowsOf}
-use Rattle.orders.proofs.Tellings.{asks-end, asks-room, asks-turn}
-use Rattle.orders.specs.View.{whichOf}
+use Rattle.telling.proofs.Tellings.{asks-end, asks-room, asks-turn}
+use Rattle.telling.specs.View.{whichOf}
 use Rattle.rules.specs.Order.{encodeAll}
 use Rattle.rules.specs.Step.{asks}
 use borrow.Author.Needs.{needs}
 use lib.ListN.{drop, length}
 use mathlib.Core.Path.{_∙_, _≡_, refl}
 use native.Mathlib.Omega.{arith}
-use Rattle.orders.proofs.told.write_asks.Statement.{statement}
-use Rattle.orders.proofs.told.write_asks.Tie as tie
+use Rattle.telling.proofs.write_asks.Statement.{statement}
+use Rattle.telling.proofs.write_asks.Tie as tie
 
 abbrev Inv-loop : tie.InvT-loop
 Inv-loop out₀ at pass which count entries n end₀ i₀ out end i = (i ≤ n) × (length out ≡ length out₀) × (length entries ≡ 63) × Owes out₀ at (encodeAll pass (asks (whichOf which) 1 (rowsOf count entries))) end out (encodeAll pass (asks (whichOf which) (i + 1) (drop i (rowsOf count entries))))

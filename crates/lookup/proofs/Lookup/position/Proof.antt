@@ -2,8 +2,8 @@
 use Rattle.rules.specs.Listing.{lookupPosition}
 use borrow.Author.Needs.{needs}
 use mathlib.Core.Path.{refl}
-use Rattle.listing.proofs.find.Lookup.position.Statement.{statement}
-use Rattle.listing.proofs.find.Lookup.position.Tie as tie
+use Rattle.lookup.proofs.Lookup.position.Statement.{statement}
+use Rattle.lookup.proofs.Lookup.position.Tie as tie
 
 enum-told : tie.Need-enum-told
 enum-told c = search needs

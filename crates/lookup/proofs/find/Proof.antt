@@ -1,7 +1,7 @@
 -- What is left to look at decides.
 use Rattle.rules.specs.Picture.{Pair, holds}
 use Prim.Native.Nat.{_+_, _-_, _≤_}
-use Rattle.listing.proofs.Seeking.{first-here, first-none, first-on}
+use Rattle.lookup.proofs.Seeking.{first-here, first-none, first-on}
 use Rattle.node.proofs.Arrays.{rows-here, rows-past}
 use Rattle.node.specs.View.{pairOf, rowsOf}
 use Rattle.rules.specs.Listing.{entriesFrom, firstOf}
@@ -10,8 +10,8 @@ use lib.ListN.{drop, length}
 use mathlib.Core.List.{List}
 use mathlib.Core.Path.{_∙_, _≡_, ap, refl, sym}
 use native.Mathlib.Omega.{arith}
-use Rattle.listing.proofs.find.find.Statement.{statement}
-use Rattle.listing.proofs.find.find.Tie as tie
+use Rattle.lookup.proofs.find.Statement.{statement}
+use Rattle.lookup.proofs.find.Tie as tie
 
 abbrev Inv-loop : tie.InvT-loop
 Inv-loop count block number entries n i₀ i = (i ≤ n) × (length entries ≡ 63) × (firstOf (pairOf block number) (entriesFrom (i + 1) (drop i (rowsOf count entries))) ≡ firstOf (pairOf block number) (entriesFrom 1 (rowsOf count entries)))

@@ -2,7 +2,7 @@
 ghost use mathlib.Core.Path.{_≡_};
 ghost use Rattle.rules.specs.Listing.{firstOf, entriesFrom, lookupNumber, lookupPosition, lookupAddress};
 ghost use Rattle.node.specs.View.{pairOf, rowsOf};
-ghost use Rattle.listing.specs.View.{lookupOf};
+ghost use Rattle.lookup.specs.View.{lookupOf};
 use node::address::LogicalNodeAddress;
 use node::address::NodePosition;
 use node::entry::NodeEntry;

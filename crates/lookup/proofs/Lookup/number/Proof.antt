@@ -2,8 +2,8 @@
 use Rattle.rules.specs.Listing.{lookupNumber}
 use borrow.Author.Needs.{needs}
 use mathlib.Core.Path.{refl}
-use Rattle.listing.proofs.find.Lookup.number.Statement.{statement}
-use Rattle.listing.proofs.find.Lookup.number.Tie as tie
+use Rattle.lookup.proofs.Lookup.number.Statement.{statement}
+use Rattle.lookup.proofs.Lookup.number.Tie as tie
 
 enum-known-self : tie.Need-enum-known-self
 enum-known-self c = search needs

@@ -17,8 +17,9 @@ use Rattle.rules.specs.Renumber.{Judged, goods, freeNumber, Renumbering, finish
 use Rattle.rules.specs.Step.{Response, change, changeRows, setOrder, firstThatApplies, verdict, answer, ignored, counted, atLimit, conflict, nobody, judgedFor, renumberingFor, listedRow, statusAfter, keepAnswer}
 use Rattle.node.specs.View.{rowOf}
 use Rattle.entries.specs.Tests.{keepsAtLimit, countsFor}
-use Rattle.numbering.specs.Marks.{judgeMarked, judgedOf, renumberingOf}
-use Rattle.numbering.proofs.Judging.{judge-marked, judged-few}
+use Rattle.judging.specs.Marks.{judgeMarked, judgedOf}
+use Rattle.judging.proofs.Judging.{judge-marked, judged-few}
+use Rattle.numbering.specs.Marks.{renumberingOf}
 use Rattle.announcement.specs.declared.hear.Heard.{Heard}
 use Rattle.announcement.specs.Beside.{beside}
 use Rattle.announcement.specs.Hearing.{heldBy, replyChange, othersAtLimit, answered, Keeps, Hears}

@@ -10,7 +10,8 @@ use Rattle.rules.specs.Renumber.{Renumbering}
 use Rattle.rules.specs.Step.{Change, Response, change, setOrder, counted, atLimit, conflict, verdict, answer, renumberingFor, listedRow}
 use Rattle.node.specs.View.{rowOf}
 use Rattle.entries.specs.Tests.{countsFor}
-use Rattle.numbering.specs.Marks.{orEach, renumberingOf}
+use Rattle.judging.specs.Marks.{orEach}
+use Rattle.numbering.specs.Marks.{renumberingOf}
 use Rattle.announcement.specs.declared.hear.Heard.{Heard}
 
 -- a mark for each announced pair that is one of these

@@ -7,15 +7,16 @@ ghost use Rattle.rules.specs.Picture.{Row, pairsIn, seatAt, others};
 ghost use Rattle.rules.specs.Renumber.{freeNumber, renumber, placeOf, triesOf};
 ghost use Rattle.rules.specs.Step.{statusAfter};
 ghost use Rattle.node.specs.View.{rowOf, rowsOf, pairsOf};
-ghost use Rattle.numbering.specs.Marks.{judgedOf, renumberingOf};
+ghost use Rattle.judging.specs.Marks.{judgedOf};
+ghost use Rattle.numbering.specs.Marks.{renumberingOf};
 ghost use Rattle.announcement.specs.Hearing.{Hears, Keeps, heldBy};
 use super::survey;
+use judging::judge;
 use node::address::LogicalNodeAddress;
 use node::entry::LISTED;
 use node::entry::NodeEntry;
 use node::entry::SETTING;
 use node::pairs::Pairs;
-use numbering::judge;
 use numbering::renumber;
 use numbering::renumber::Renumbering;
 

@@ -19,7 +19,6 @@ use node::entry::NodeEntry;
 use numbering::renumber::Renumbering;
 use orders::order;
 use orders::order::Delta;
-use orders::told;
 
 // The state is OK.
 pub fn is_ok(state: RegistryState) -> bool
@@ -69,8 +68,8 @@ pub fn tell_entries(
     ensures { λ r. ⌜ Wrote (now (out .entry)) 0 (encodeAll pass (rowsTold (stateOf (state .0)) size (rowsOf count before) (rowsOf count after))) r (now (out .exit)) ⌝ }
 {
     if is_ok(state) {
-        let at = told::write_changes(out, 0, pass, Delta::Invalid, size, count, before, after);
-        return told::write_changes(out, at, pass, Delta::New, size, count, before, after);
+        let at = telling::write_changes(out, 0, pass, Delta::Invalid, size, count, before, after);
+        return telling::write_changes(out, at, pass, Delta::New, size, count, before, after);
     }
     0
 }

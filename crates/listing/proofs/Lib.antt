@@ -1,4 +1,3 @@
 -- Laws that the functions' proofs use, and what follows from the contracts.
 pub mod Listed
-pub mod Seeking
 pub mod Promises

@@ -1,16 +1,13 @@
--- What a flat listing and the code's look-up stand for.
+-- What a flat listing stands for.
 use Prim.Native.Nat.{ℕ, zero, suc}
 use mathlib.Core.List.{List, [], _∷_, map}
 use lib.ListN.{length, replicate, getD}
 use lib.Seq.{sets}
 use Rattle.laws.specs.Views.{firsts}
 use Rattle.laws.specs.Lists.{upFrom}
-use Rattle.rules.specs.Listing as rules
 use Rattle.rules.specs.Listing.{Entry, entry}
 use Rattle.node.specs.View.{pairOf}
 use Rattle.listing.specs.declared.flat.Listing.{Listing}
-use Rattle.listing.specs.declared.find.Lookup.{Lookup}
-use Rattle.listing.specs.declared.find.Lookup.the-variants as lookups
 
 -- 1,008 places, zeros behind those that are filled
 unfoldable pub filled : List ℕ → List ℕ
@@ -33,7 +30,3 @@ entryAt l i = entry (getD (l .positions) i 0) (getD (l .addresses) i 0) (pairOf 
 
 unfoldable pub entriesIn : Listing → List Entry
 entriesIn l = map (entryAt l) (upFrom 0 (l .count))
-
-abbrev pub lookupOf : Lookup → rules.Lookup
-lookupOf (lookups.Refused n) = rules.notFound n
-lookupOf (lookups.Found x a) = rules.found (x .0) (a .0)

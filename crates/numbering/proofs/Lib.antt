@@ -1,5 +1,3 @@
 -- Laws that the functions' proofs use.
-pub mod Holding
-pub mod Judging
 pub mod Numbers
 pub mod Offers

@@ -1,13 +1,12 @@
--- Marks beside pairs and numbers, and what the code's answers stand for.
+-- Marks beside numbers, and what the code's answers stand for.
 use Prim.Native.Nat.{ℕ, zero, suc, _<_}
 use mathlib.Core.Path.{_≡_}
-use mathlib.Core.Bool.{Bool, true, false, cond, not, _&&_, _||_}
-use mathlib.Core.List.{List, [], _∷_}
+use mathlib.Core.Bool.{Bool, true, false, cond, not, _||_}
+use mathlib.Core.List.{List}
 use mathlib.Core.Option.{Option, none, some}
-use lib.Dec.{eqb, leb, ltb}
+use lib.Dec.{eqb, ltb}
 use lib.ListN.{length, getD}
-use Rattle.rules.specs.House.{minNumber, maxNumber, maxTries}
-use Rattle.rules.specs.Picture.{Pair, holds}
+use Rattle.rules.specs.House.{maxTries}
 use Rattle.rules.specs.Renumber as rules
 use Rattle.rules.specs.Renumber.{Judged, isIn, offer, finished, renumbers}
 use Rattle.node.specs.View.{pairOf}
@@ -15,27 +14,6 @@ use Rattle.numbering.specs.declared.free.Free.{Free}
 use Rattle.numbering.specs.declared.free.Free.the-variants as frees
 use Rattle.numbering.specs.declared.renumber.Renumbering.{Renumbering}
 use Rattle.numbering.specs.declared.renumber.Renumbering.the-variants as renumberings
-
--- marks, and more marks on the first of them
-unfoldable pub orEach : (marks more : List Bool) → List Bool
-orEach [] gs = []
-orEach (h ∷ hs) [] = h ∷ hs
-orEach (h ∷ hs) (g ∷ gs) = (h || g) ∷ orEach hs gs
-
--- the rules' judging, where a mark says that another row keeps the pair
-unfoldable pub isGoodMarked : Bool → (earlier : List Pair) → Pair → Bool
-isGoodMarked held earlier a = leb minNumber (a .number) && leb (a .number) maxNumber && not held && not (holds earlier a)
-
-unfoldable pub judgeMarked : (held : List Bool) → (earlier : List Pair) → List Pair → List Judged
-judgeMarked hs earlier [] = []
-judgeMarked [] earlier (a ∷ rest) = []
-judgeMarked (h ∷ hs) earlier (a ∷ rest) = record { pair = a; good = isGoodMarked h earlier a } ∷ judgeMarked hs (a ∷ earlier) rest
-
--- pairs, and a mark for each good one
-unfoldable pub judgedOf : List Pair → List Bool → List Judged
-judgedOf [] gs = []
-judgedOf (a ∷ rest) [] = []
-judgedOf (a ∷ rest) (g ∷ gs) = record { pair = a; good = g } ∷ judgedOf rest gs
 
 -- a table of marked numbers
 unfoldable pub isMarked : List ℕ → ℕ → Bool

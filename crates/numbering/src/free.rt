@@ -9,8 +9,8 @@ ghost use Rattle.rules.specs.Picture.{pairsIn};
 ghost use Rattle.rules.specs.Renumber.{numbersOf, freeNumber};
 ghost use Rattle.node.specs.View.{pairsOf, rowsOf};
 ghost use Rattle.numbering.specs.Marks.{isMarked, Added, leastBy, freeOf};
-use super::judge::MAX_NUMBER;
-use super::judge::MIN_NUMBER;
+use judging::judge::MAX_NUMBER;
+use judging::judge::MIN_NUMBER;
 use node::entry::NodeEntry;
 use node::pairs::Pairs;
 

@@ -18,10 +18,9 @@ use closing::state::STOPPED;
 use entries::changes;
 use orders::order;
 use orders::order::Notice;
-use orders::told;
-use orders::told::Which;
 use refusals::NOT_ASKED;
 use refusals::WRONG_PASS;
+use telling::Which;
 
 // The last pass.
 pub const MAX_PASS: u32 = 4294967295;
@@ -37,7 +36,7 @@ impl RegistryImage {
         let pass = self.pass + 1;
         let units = self.units as usize;
         let entries = self.entries;
-        let end = told::write_asks(out, at, pass, Which::Open, units, entries);
+        let end = telling::write_asks(out, at, pass, Which::Open, units, entries);
         self.pass = pass;
         let state = RegistryState(NOTOK);
         self.state = state;
@@ -100,7 +99,7 @@ impl RegistryImage {
         }
         let units = self.units as usize;
         let before = self.entries;
-        let end = told::write_asks(out, 0, pass, Which::Silent, units, before);
+        let end = telling::write_asks(out, 0, pass, Which::Silent, units, before);
         let entries = changes::all_asked(units, before);
         self.entries = entries;
         let delay = CfgDelay(STOPPED);

@@ -6,7 +6,8 @@ ghost use Rattle.laws.specs.Lists.{select};
 ghost use Rattle.rules.specs.Picture.{isOpen, rowAt, nodes};
 ghost use Rattle.rules.specs.Listing.{listing, lookUp};
 ghost use Rattle.node.specs.View.{pairOf, rowOf};
-ghost use Rattle.listing.specs.View.{flatOf, lookupOf};
+ghost use Rattle.listing.specs.View.{flatOf};
+ghost use Rattle.lookup.specs.View.{lookupOf};
 ghost use Rattle.closing.specs.State.{stateNumber};
 ghost use Rattle.registry.specs.View.{viewOf};
 use super::image::RegistryImage;
@@ -17,10 +18,9 @@ use closing::state::OK;
 use closing::state::RegistryState;
 use closing::state::STOPPED;
 use entries::outlook;
-use listing::find;
-use listing::find::Lookup;
 use listing::flat;
 use listing::flat::Listing;
+use lookup::Lookup;
 use node::address::NodePosition;
 use node::entry::NodeEntry;
 
@@ -114,7 +114,7 @@ impl RegistryImage {
         let state = self.state;
         if notes::is_ok(state) {
             let entries = self.entries;
-            return find::find(self.units as usize, entries, block, number);
+            return lookup::find(self.units as usize, entries, block, number);
         }
         Lookup::Refused(NOT_OK)
     }

@@ -2,9 +2,9 @@
 use super::order_lines;
 use closing::state::OFF;
 use closing::state::OK;
-use listing::find::Lookup;
 use listing::flat::Listing;
 use listing::flat::MAX_LISTED;
+use lookup::Lookup;
 use node::address::NodePosition;
 use node::entry::IGNORED;
 use node::entry::LISTED;

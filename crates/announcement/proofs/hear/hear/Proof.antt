@@ -2,10 +2,11 @@
 use Prim.Native.Nat.{_<_}
 use Rattle.announcement.proofs.Hearing.{hears-barred, hears-changed, hears-fine, hears-outside, hears-shared}
 use Rattle.announcement.proofs.Seats.{seat-pairs}
+use Rattle.judging.specs.Marks.{orEach}
 use Rattle.laws.specs.Lists.{collect}
 use Rattle.node.proofs.Arrays.{rows-length}
 use Rattle.node.specs.View.{pairsOf, rowOf, rowsOf}
-use Rattle.numbering.specs.Marks.{orEach, renumberingOf}
+use Rattle.numbering.specs.Marks.{renumberingOf}
 use Rattle.rules.specs.Picture.{holds, keptBy, noRow, pairsIn}
 use Rattle.rules.specs.Picture as rules
 use lib.ListN.{length, replicate}

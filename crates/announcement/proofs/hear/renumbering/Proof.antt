@@ -4,7 +4,7 @@ use Rattle.laws.specs.Lists.{collect}
 use Rattle.announcement.proofs.Seats.{pairs-beside}
 use Rattle.node.specs.View.{pairsOf, rowsOf}
 use Rattle.node.proofs.Arrays.{rows-length}
-use Rattle.numbering.specs.Marks.{judgedOf}
+use Rattle.judging.specs.Marks.{judgedOf}
 use Rattle.rules.specs.Renumber.{freeNumber, renumber}
 use lib.ListN.{length}
 use mathlib.Core.Path.{_≡_, _∙_}

@@ -4,8 +4,8 @@ use Rattle.entries.specs.Tests.{keepsAtLimit}
 use Rattle.laws.specs.Lists.{any, collect}
 use Rattle.laws.specs.Views.{any-end}
 use Rattle.node.specs.View.{pairsOf, rowsOf}
-use Rattle.numbering.proofs.Holding.{held-end, held-on}
-use Rattle.numbering.specs.Marks.{orEach}
+use Rattle.judging.proofs.Holding.{held-end, held-on}
+use Rattle.judging.specs.Marks.{orEach}
 use Rattle.rules.specs.Picture.{bars, holds, keeps, pairsIn}
 use Rattle.announcement.proofs.Walking.{beside-here, beside-past, seen-on}
 use Rattle.announcement.specs.Beside.{beside}

@@ -2,9 +2,10 @@
 use Prim.Native.Nat.{_-_}
 use Rattle.laws.specs.Lists.{collect}
 use Rattle.node.specs.View.{pairsOf, rowsOf}
-use Rattle.numbering.proofs.Judging.{judged-at, judged-end}
+use Rattle.judging.proofs.Judging.{judged-at, judged-end}
+use Rattle.judging.specs.Marks.{judgedOf}
 use Rattle.numbering.proofs.Offers.{turn-offered, turn-passed}
-use Rattle.numbering.specs.Marks.{NoneFree, judgedOf}
+use Rattle.numbering.specs.Marks.{NoneFree}
 use Rattle.rules.specs.Picture.{pairsIn}
 use Rattle.rules.specs.Renumber.{freeNumber, renumber, renumberFrom}
 use borrow.Author.Needs.{needs}

@@ -35,8 +35,14 @@ fn run(words: &[&str]) -> io::Result<bool> {
     match words {
         ["ringbox"] => play(&mut Ringbox::new(), &mut input, &mut output)?,
         ["telegrams"] => play(&mut Telegrams::new(), &mut input, &mut output)?,
-        ["vectors", "ringbox"] => output.write_all(scripts::RINGBOX_EDGES.as_bytes())?,
-        ["vectors", "telegrams"] => output.write_all(scripts::TELEGRAMS_EDGES.as_bytes())?,
+        ["vectors", "ringbox"] => {
+            output.write_all(scripts::RINGBOX_EDGES.as_bytes())?;
+            output.write_all(&generate::ringbox_limits())?;
+        }
+        ["vectors", "telegrams"] => {
+            output.write_all(scripts::TELEGRAMS_EDGES.as_bytes())?;
+            output.write_all(&generate::telegrams_limits())?;
+        }
         ["generate", kind @ ("ringbox" | "telegrams"), seed, lines] => {
             let (Ok(seed), Ok(lines)) = (seed.parse(), lines.parse()) else {
                 return Ok(false);

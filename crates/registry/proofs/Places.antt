@@ -16,7 +16,7 @@ use Rattle.node.specs.View.{rowOf, rowsOf}
 use Rattle.node.proofs.Arrays.{rows-length, rows-at, rows-set}
 use Rattle.entries.specs.Tests.{countsFor, struck, struckIf}
 use Rattle.registry.specs.declared.image.RegistryImage.{RegistryImage}
-use Rattle.closing.specs.State.{stateOf}
+use Rattle.marks.specs.State.{stateOf}
 use Rattle.registry.specs.View.{viewOf}
 use Rattle.registry.specs.Outcome.{Seat}
 use Rattle.announcement.specs.Hearing.{replyChange}

@@ -11,7 +11,7 @@ use Rattle.rules.specs.Step.{setOrder}
 use Rattle.rules.specs.Run.{written}
 use Rattle.node.specs.declared.entry.NodeEntry.{NodeEntry}
 use Rattle.node.specs.View.{rowOf, rowsOf}
-use Rattle.closing.specs.State.{stateOf, runs}
+use Rattle.marks.specs.State.{stateOf, runs}
 use Rattle.closing.specs.Told.{rowTold}
 use Rattle.closing.proofs.Writing.{wrote-orders}
 use Rattle.registry.specs.declared.image.RegistryImage.{RegistryImage}

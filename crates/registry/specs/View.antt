@@ -7,7 +7,7 @@ use lib.ListN.{replicate}
 use Rattle.rules.specs.Picture.{Picture, legalSize, newRow}
 use Rattle.node.specs.declared.entry.NodeEntry.{NodeEntry}
 use Rattle.node.specs.View.{rowsOf}
-use Rattle.closing.specs.State.{stateOf, runs}
+use Rattle.marks.specs.State.{stateOf, runs}
 use Rattle.registry.specs.declared.image.RegistryImage.{RegistryImage}
 use Rattle.registry.specs.declared.image.MakeAnswer.{MakeAnswer}
 use Rattle.registry.specs.declared.image.MakeAnswer.the-variants as makes

@@ -1,10 +1,10 @@
 // What a picture shows: state, listing, rows, and where a pair is listed.
 use super::order_lines;
-use closing::state::OFF;
-use closing::state::OK;
 use listing::flat::Listing;
 use listing::flat::MAX_LISTED;
 use lookup::Lookup;
+use marks::OFF;
+use marks::OK;
 use node::address::NodePosition;
 use node::entry::IGNORED;
 use node::entry::LISTED;

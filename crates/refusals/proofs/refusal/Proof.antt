@@ -3,9 +3,9 @@ use Rattle.rules.specs.Step.{takes}
 use Rattle.records.specs.declared.event.Event.{Event}
 use Prim.Native.Nat.{ℕ}
 use Rattle.records.specs.View.{eventOf}
-use Rattle.closing.proofs.States.{by-row}
+use Rattle.marks.proofs.States.{by-row}
 use Rattle.refusals.specs.Numbers.{refusalOf}
-use Rattle.closing.specs.State.{stateOf}
+use Rattle.marks.specs.State.{stateOf}
 use Rattle.rules.specs.Picture.{NotOk, Off, Ok, State}
 use Rattle.rules.specs.Step.{notTaken}
 use borrow.Author.Needs.{needs}

@@ -1,5 +1,5 @@
 -- By the event.
-use Rattle.closing.specs.State.{stateOf}
+use Rattle.marks.specs.State.{stateOf}
 use Rattle.node.specs.View.{rowOf}
 use Rattle.records.specs.View.{eventOf}
 use Rattle.records.specs.declared.event.Event.{Event}

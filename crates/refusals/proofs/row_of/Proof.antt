@@ -1,5 +1,5 @@
 -- By the state's number.
-use Rattle.closing.specs.State.{stateRow}
+use Rattle.marks.specs.State.{stateRow}
 use borrow.Author.Tests.{eq-eqb, ne-eqb}
 use native.Mathlib.Omega.{arith}
 use Rattle.refusals.proofs.row_of.Statement.{statement}

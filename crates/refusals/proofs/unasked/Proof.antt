@@ -8,8 +8,8 @@ use lib.Dec.{eqb}
 use Rattle.laws.specs.Bools.{cond-same}
 use Rattle.rules.specs.Picture.{isNotOk, isOpen}
 use Rattle.node.specs.View.{rowOf}
-use Rattle.closing.specs.State.{stateOf}
-use Rattle.closing.proofs.States.{by-state}
+use Rattle.marks.specs.State.{stateOf}
+use Rattle.marks.proofs.States.{by-state}
 use Rattle.refusals.proofs.unasked.Statement.{statement}
 use Rattle.refusals.proofs.unasked.Tie as tie
 

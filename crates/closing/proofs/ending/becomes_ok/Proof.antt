@@ -1,6 +1,6 @@
 -- By the state's number.
 use Rattle.laws.specs.Bools.{cond-same}
-use Rattle.closing.proofs.States.{by-state}
+use Rattle.marks.proofs.States.{by-state}
 use Rattle.rules.specs.Picture.{isNotOk}
 use borrow.Author.Tests.{ne-eqb}
 use Rattle.closing.proofs.ending.becomes_ok.Statement.{statement}

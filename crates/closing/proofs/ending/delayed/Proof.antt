@@ -1,6 +1,6 @@
 -- One test.
 use Rattle.laws.specs.Bools.{or-true-right, or-none}
-use Rattle.closing.specs.State.{runs}
+use Rattle.marks.specs.State.{runs}
 use mathlib.Core.Bool.{true}
 use mathlib.Core.Path.{refl, sym}
 use Rattle.closing.proofs.ending.delayed.Statement.{statement}

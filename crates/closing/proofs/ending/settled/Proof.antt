@@ -1,5 +1,5 @@
 -- One test.
-use Rattle.closing.specs.State.{stateOf}
+use Rattle.marks.specs.State.{stateOf}
 use Rattle.closing.proofs.ending.settled.Statement.{statement}
 use Rattle.closing.proofs.ending.settled.Tie as tie
 

@@ -1,6 +1,6 @@
 -- The tests in their order.
-use Rattle.closing.proofs.States.{by-state}
-use Rattle.closing.specs.State.{runs}
+use Rattle.marks.proofs.States.{by-state}
+use Rattle.marks.specs.State.{runs}
 use Rattle.rules.specs.Picture.{isOk}
 use borrow.Author.Tests.{eq-eqb, ne-eqb}
 use Rattle.closing.proofs.ending.starts_delay.Statement.{statement}

@@ -1,5 +1,5 @@
 -- By the state's number.
-use Rattle.closing.proofs.States.{by-state}
+use Rattle.marks.proofs.States.{by-state}
 use Rattle.rules.specs.Picture.{isOk}
 use borrow.Author.Tests.{ne-eqb}
 use Rattle.closing.proofs.notes.is_ok.Statement.{statement}

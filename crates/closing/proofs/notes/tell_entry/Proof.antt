@@ -2,7 +2,7 @@
 use Rattle.node.specs.View.{pairsOf, rowOf}
 use Rattle.closing.proofs.Writing.{told-else, told-room, told-room-2, told-wrote}
 use Rattle.closing.specs.Told.{rowTold}
-use Rattle.closing.specs.State.{stateOf}
+use Rattle.marks.specs.State.{stateOf}
 use Rattle.rules.specs.Ending.{gained, lost, missing, tell}
 use Rattle.rules.specs.Order.{INVALID, NEW}
 use Rattle.rules.specs.Picture.{isOk}

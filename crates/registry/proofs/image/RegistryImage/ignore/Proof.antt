@@ -4,7 +4,7 @@ use Rattle.registry.proofs.Doing.{done, end-room, front-room}
 use Rattle.registry.proofs.Places.{put-counted}
 use Rattle.registry.proofs.Telling.{told-rows}
 use Rattle.closing.specs.Told.{rowsTold}
-use Rattle.closing.specs.State.{runs, stateOf}
+use Rattle.marks.specs.State.{runs, stateOf}
 use Rattle.registry.specs.View.{viewOf}
 use Rattle.rules.specs.Picture.{seatAt, withRows}
 use Rattle.rules.specs.Step.{changeRows, onCounted}

@@ -4,7 +4,7 @@ use Prim.Native.Nat.{_+_, suc, ℕ}
 use Rattle.node.proofs.Arrays.{rows-length}
 use Rattle.node.specs.View.{rowsOf}
 use Rattle.registry.proofs.Places.{mapped-length}
-use Rattle.closing.proofs.States.{by-state}
+use Rattle.marks.proofs.States.{by-state}
 use Rattle.registry.specs.View.{viewOf}
 use Rattle.rules.specs.Picture.{State, nodes, nodesIn}
 use borrow.Author.Needs.{needs}

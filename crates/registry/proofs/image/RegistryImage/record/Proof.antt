@@ -2,7 +2,7 @@
 use Prim.Native.Nat.{ℕ, suc, _≤_}
 use Rattle.announcement.specs.Hearing.{Hears}
 use Rattle.announcement.specs.declared.hear.Heard.{Heard}
-use Rattle.closing.specs.State.{stateOf}
+use Rattle.marks.specs.State.{stateOf}
 use Rattle.node.specs.View.{pairsOf, rowOf, rowsOf}
 use Rattle.records.specs.View.{eventOf}
 use Rattle.records.specs.declared.event.Event.{Event}

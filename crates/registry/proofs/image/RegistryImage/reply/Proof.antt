@@ -1,5 +1,5 @@
 -- What is told of the entry, the SET, then the ending.
-use Rattle.closing.specs.State.{runs, stateOf}
+use Rattle.marks.specs.State.{runs, stateOf}
 use Rattle.numbering.specs.Marks.{renumberingOf}
 use Rattle.registry.proofs.Places.{put-entry}
 use Rattle.registry.proofs.Replying.{closing-room, replied, set-room, told-room}

@@ -2,7 +2,7 @@
 use Rattle.entries.specs.Tests.{countsFor, struck}
 use Rattle.registry.proofs.Places.{put-counted}
 use Rattle.registry.proofs.Scanning.{begins, first-room, notok-room, notok-wrote, second-room}
-use Rattle.closing.specs.State.{runs, stateOf}
+use Rattle.marks.specs.State.{runs, stateOf}
 use Rattle.registry.specs.View.{viewOf}
 use Rattle.rules.specs.Order.{NOTOK}
 use Rattle.rules.specs.Picture.{seatAt, withRows}

@@ -6,8 +6,8 @@ use mathlib.Core.List.{List, []}
 use lib.Dec.{eqb}
 use lib.ListN.{getD}
 use Rattle.rules.specs.Picture.{State, Off, NotOk, Ok}
-use Rattle.closing.specs.State.{stateOf}
-use Rattle.closing.specs.State.{stateRow}
+use Rattle.marks.specs.State.{stateOf}
+use Rattle.marks.specs.State.{stateRow}
 
 pub by-state : {X : Type 0} (f : State → X) (m : ℕ) → f (stateOf m) ≡ cond (eqb m 0) (f Off) (cond (eqb m 1) (f NotOk) (f Ok))
 unfolding stateOf

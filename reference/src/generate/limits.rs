@@ -1,0 +1,57 @@
+//! Lines on both sides of the limit of 16,384 bytes, as they are read and in their normal form.
+
+const LIMIT: usize = 16_384;
+
+/// Lines that are no command, of each length around the limit of a line and of a comment, and a too long one whose shown start ends
+/// in blanks.
+fn words(script: &mut Vec<u8>) {
+    for length in LIMIT - 3..=LIMIT + 1 {
+        line(script, &vec![b'x'; length]);
+    }
+    let mut blanks = vec![b'x'; LIMIT + 1];
+    blanks[40..70].fill(b' ');
+    line(script, &blanks);
+}
+
+fn line(script: &mut Vec<u8>, line: &[u8]) {
+    script.extend_from_slice(line);
+    script.push(b'\n');
+}
+
+/// A command: its words, and so many bytes as hexadecimal without blanks.
+fn command(script: &mut Vec<u8>, words: &str, bytes: impl Iterator<Item = u8>) {
+    let digits: String = bytes.map(|byte| format!("{byte:02X}")).collect();
+    line(script, format!("{words}{digits}").as_bytes());
+}
+
+/// Records whose normal form is as long as a line may be, or longer: an ANSWER, and one with fewer blanks.
+pub fn ringbox() -> Vec<u8> {
+    let mut script = Vec::new();
+    words(&mut script);
+    let record = |kind: u8, length: usize| [0x4D, 0x45, kind].into_iter().chain((3..length).map(|place| place as u8));
+    for length in 6_549..=6_554 {
+        command(&mut script, "> ", record(0x04, length));
+    }
+    for length in 8_188..=8_190 {
+        command(&mut script, ">", record(0x05, length));
+    }
+    script
+}
+
+/// Joins whose normal form is as long as a line may be, or two bytes longer, with numbers of one to five digits; and payloads.
+pub fn telegrams() -> Vec<u8> {
+    let mut script = Vec::new();
+    words(&mut script);
+    for words in ["join 9 9 ", "join 10 99 ", "join 12 100 ", "join 99 1000 ", "join 100 65535 "] {
+        let most = (LIMIT - 2 - words.len()) / 2;
+        for length in [most, most + 1] {
+            command(&mut script, words, (0..length).map(|place| place as u8));
+        }
+    }
+    let most = (LIMIT - "payload ".len()) / 2;
+    for length in [most, most + 1] {
+        command(&mut script, "payload ", (0..length).map(|place| place as u8));
+    }
+    line(&mut script, b"count 45");
+    script
+}

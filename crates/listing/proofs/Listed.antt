@@ -1,34 +1,16 @@
 -- Entries stored one behind the other: what one turn of a loop over the pairs of an entry, or over the entries of a ring, leaves to be stored.
 use Prim.Native.Nat.{ℕ, suc, _+_}
-use mathlib.Core.Path.{_≡_, refl, sym, _∙_, ap}
-use mathlib.Core.Bool.{true, false}
+use mathlib.Core.Path.{_≡_, refl, _∙_, ap}
 use mathlib.Core.List.{List, [], _∷_, _++_, map}
-use mathlib.Core.Logic.{_⊎_, inl, inr}
 use native.Mathlib.Numerals.{add-one}
 use native.Mathlib.Omega.{arith}
 use lib.ListN.{length, length-map, set, replicate}
-use Rattle.laws.specs.Bools.{decide}
 use Rattle.laws.specs.Buffers.{Wrote, Owes, owes-start, owes-on, owes-end, wrote-along}
-use Rattle.rules.specs.Picture as rules
-use Rattle.rules.specs.Picture.{Pair, Row, Kept, keptIn, pairsIn}
+use Rattle.rules.specs.Picture.{Pair, Row, keptIn}
 use Rattle.rules.specs.Listing.{Entry, entry, entriesOf, entriesFrom}
-use Rattle.node.specs.declared.entry.NodeEntry.{NodeEntry}
-use Rattle.node.specs.View.{pairOf, rowOf, isListed}
-use Rattle.node.proofs.Marks.{kept-listed, kept-else}
+use Rattle.node.specs.View.{pairOf}
 use Rattle.listing.specs.declared.flat.Listing.{Listing}
 use Rattle.listing.specs.View.{filled, flatOf}
-
--- what is listed of a node's entry: its address, with each pair that it keeps
-pub entries-kept : (x : ℕ) (e : NodeEntry) → entriesOf x (keptIn (rowOf e)) ≡ map (entry x (e .address .0)) (pairsIn (rowOf e))
-unfolding entriesOf pairsIn rules.pairsOf
-entries-kept x e = go (decide (isListed (rowOf e)))
-  where
-    those : Kept → List Entry
-    those k = map (entry x (e .address .0)) (rules.pairsOf k)
-
-    go : (isListed (rowOf e) ≡ true) ⊎ (isListed (rowOf e) ≡ false) → entriesOf x (keptIn (rowOf e)) ≡ those (keptIn (rowOf e))
-    go (inl h) = ap (entriesOf x) (kept-listed e h) ∙ sym (ap those (kept-listed e h))
-    go (inr h) = ap (entriesOf x) (kept-else e h) ∙ sym (ap those (kept-else e h))
 
 map-append : {A B : Type 0} (f : A → B) (xs ys : List A) → map f (xs ++ ys) ≡ map f xs ++ map f ys
 map-append f [] ys = refl

@@ -9,7 +9,7 @@ use Rattle.rules.specs.Picture.{Pair, Row, samePair, holds, pairsIn}
 use Rattle.rules.specs.Listing.{Entry, entry, entriesFrom, Lookup, found, notFound, firstOf}
 use Rattle.node.specs.declared.entry.NodeEntry.{NodeEntry}
 use Rattle.node.specs.View.{rowOf}
-use Rattle.listing.proofs.Listed.{entries-kept}
+use Rattle.node.proofs.Entries.{entries-kept}
 
 module _ (a : Pair) where
   -- among the pairs of one node, and then among the others

@@ -1,2 +1,2 @@
--- Laws that several functions' proofs use.
-pub mod Writing
+-- What an ending's tests come to.
+pub mod Closing

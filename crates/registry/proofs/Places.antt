@@ -20,7 +20,7 @@ use Rattle.marks.specs.State.{stateOf}
 use Rattle.registry.specs.View.{viewOf}
 use Rattle.registry.specs.Outcome.{Seat}
 use Rattle.announcement.specs.Hearing.{replyChange}
-use Rattle.closing.specs.Told.{rowTold}
+use Rattle.notes.specs.Told.{rowTold}
 use Rattle.registry.proofs.Telling.{told-put}
 use Rattle.announcement.proofs.Seats.{seat-row, seat-put, seat-counted}
 

@@ -12,15 +12,13 @@ use Rattle.rules.specs.Run.{written}
 use Rattle.node.specs.declared.entry.NodeEntry.{NodeEntry}
 use Rattle.node.specs.View.{rowOf, rowsOf}
 use Rattle.marks.specs.State.{stateOf, runs}
-use Rattle.closing.specs.Told.{rowTold}
-use Rattle.closing.proofs.Writing.{wrote-orders}
+use Rattle.notes.specs.Told.{rowTold}
 use Rattle.registry.specs.declared.image.RegistryImage.{RegistryImage}
 use Rattle.registry.specs.declared.record.Recorded.{Recorded}
 use Rattle.registry.specs.View.{viewOf}
 use Rattle.registry.specs.Outcome.{Does, Ends, Seat, endOrders, replyOutcome}
 use Rattle.announcement.specs.Hearing.{replyChange}
 use Rattle.registry.proofs.Doing.{done, end-room, front-room}
-use Rattle.registry.proofs.Endings.{start-first, start-second}
 use Rattle.registry.proofs.Places.{front-reply, put-entry}
 
 module _ (s : RegistryImage) (x : ℕ) (h : Seat s x) (a : ℕ) (e d : NodeEntry) (n : Renumbering) (b : List ℕ) where
@@ -33,24 +31,20 @@ module _ (s : RegistryImage) (x : ℕ) (h : Seat s x) (a : ℕ) (e d : NodeEntry
   enough room = front-room (viewOf s) (replyChange (seatAt (viewOf s .rows) x) x a (rowOf e) n (viewOf s)) refl (front-reply s x h d a (rowOf e) n) refl b room
 
   module _ (room : length (written (replyOutcome (viewOf s) x a (rowOf e) n)) ≤ length b) where
-    pub told-room : length (encodeAll (s .pass) (rowTold (stateOf (s .state .0)) (s .size) (rowOf (getD (s .entries) (x - 1) d)) (rowOf e))) ≤ length b
+    pub told-room : length (encodeAll (s .pass) (rowTold (stateOf (s .state .0)) (s .size) (rowOf (getD (s .entries) (x - 1) d)) (rowOf e) ++ setOrder x a n)) ≤ length b
     unfolding orders
-    told-room = start-first (s .pass) orders (setOrder x a n) refl b (enough room)
+    told-room = enough room
 
-    module _ {m : List ℕ} {i : ℕ} (v : Wrote b 0 (encodeAll (s .pass) (rowTold (stateOf (s .state .0)) (s .size) (rowOf (getD (s .entries) (x - 1) d)) (rowOf e))) i m) where
-      pub set-room : i + length (encodeAll (s .pass) (setOrder x a n)) ≤ length m
-      unfolding orders
-      set-room = start-second (s .pass) orders (setOrder x a n) refl b (enough room) v
+    module _ {l : List ℕ} {j : ℕ} (w : Wrote b 0 (encodeAll (s .pass) (rowTold (stateOf (s .state .0)) (s .size) (rowOf (getD (s .entries) (x - 1) d)) (rowOf e) ++ setOrder x a n)) j l)
+        {q : Picture} (g : q ≡ withRows (put (seatAt (viewOf s .rows) x) (rowOf e)) (viewOf s)) where
+      wrote : Wrote b 0 (encodeAll (q .pass) (orders ++ setOrder x a n)) j l
+      unfolding viewOf withRows orders
+      wrote = wrote-along (λ t. encodeAll (sym g t .pass) (orders ++ setOrder x a n)) w
 
-      module _ {l : List ℕ} {j : ℕ} (w : Wrote m i (encodeAll (s .pass) (setOrder x a n)) j l) {q : Picture} (g : q ≡ withRows (put (seatAt (viewOf s .rows) x) (rowOf e)) (viewOf s)) where
-        wrote : Wrote b 0 (encodeAll (q .pass) (orders ++ setOrder x a n)) j l
-        unfolding viewOf withRows orders
-        wrote = wrote-along (λ t. encodeAll (sym g t .pass) (orders ++ setOrder x a n)) (wrote-orders (s .pass) orders (setOrder x a n) v w)
+      pub closing-room : j + length (encodeAll (q .pass) (endOrders q)) ≤ length l
+      unfolding viewOf withRows orders
+      closing-room = end-room (viewOf s) (replyChange (seatAt (viewOf s .rows) x) x a (rowOf e) n (viewOf s)) refl (front-reply s x h d a (rowOf e) n) g b wrote room
 
-        pub closing-room : j + length (encodeAll (q .pass) (endOrders q)) ≤ length l
-        unfolding viewOf withRows orders
-        closing-room = end-room (viewOf s) (replyChange (seatAt (viewOf s .rows) x) x a (rowOf e) n (viewOf s)) refl (front-reply s x h d a (rowOf e) n) g b wrote room
-
-        pub replied : {r : Recorded} {k : List ℕ} → Ends q l j r k → Does s (replyOutcome (viewOf s) x a (rowOf e) n) b r k
-        unfolding viewOf withRows orders
-        replied f = done (viewOf s) (replyChange (seatAt (viewOf s .rows) x) x a (rowOf e) n (viewOf s)) refl (front-reply s x h d a (rowOf e) n) g b wrote f
+      pub replied : {r : Recorded} {k : List ℕ} → Ends q l j r k → Does s (replyOutcome (viewOf s) x a (rowOf e) n) b r k
+      unfolding viewOf withRows orders
+      replied f = done (viewOf s) (replyChange (seatAt (viewOf s .rows) x) x a (rowOf e) n (viewOf s)) refl (front-reply s x h d a (rowOf e) n) g b wrote f

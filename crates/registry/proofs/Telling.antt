@@ -14,7 +14,7 @@ use Rattle.rules.specs.Picture.{Pair, samePair, holds, State, isOk, Row, Status
 use Rattle.rules.specs.Order.{Order, NEW, INVALID}
 use Rattle.rules.specs.Step.{asked}
 use Rattle.rules.specs.Ending.{missing, packed, tell, lost, gained, tellRows, told}
-use Rattle.closing.specs.Told.{rowTold, rowsTold}
+use Rattle.notes.specs.Told.{rowTold, rowsTold}
 
 -- every pair is one of its own list
 same-self : (a : Pair) → samePair a a ≡ true

@@ -14,7 +14,6 @@ use super::image::RegistryImage;
 use super::record::Recorded;
 use super::scan::MAX_PASS;
 use super::scan::NO_PASS_LEFT;
-use closing::notes;
 use entries::changes;
 use node::address::LogicalNodeAddress;
 use node::address::NodePosition;
@@ -39,8 +38,17 @@ impl RegistryImage {
         let i = position.0 as usize - 1;
         let entry = self.entries[i];
         let state = self.state;
-        let told = notes::tell_entry(out, self.pass, state, self.size, entry, next);
-        let at = notes::write_renumbering(out, told, self.pass, position, address, step);
+        let at = notes::tell_reply(
+            out,
+            self.pass,
+            state,
+            self.size,
+            entry,
+            next,
+            position,
+            address,
+            step,
+        );
         self.entries[i] = next;
         self.finish(out, at)
     }

@@ -6,7 +6,6 @@ ghost use Rattle.registry.specs.View.{viewOf};
 ghost use Rattle.registry.specs.Outcome.{endOrders, Ends};
 use super::image::RegistryImage;
 use super::record::Recorded;
-use closing::ending;
 use entries::outlook;
 
 impl RegistryImage {
@@ -15,22 +14,27 @@ impl RegistryImage {
         requires { ⌜ at + length (encodeAll (self .pass) (endOrders (viewOf self))) ≤ length (now out) ⌝ }
         ensures { λ r. ⌜ Ends (viewOf self) (now (out .entry)) at r (now (out .exit)) ⌝ }
     {
-        let pass = self.pass;
         let entries = self.entries;
         let seen = outlook::outlook_of(self.units as usize, entries);
         let came = self.state;
-        let ok = ending::becomes_ok(came, seen.open);
-        let state = ending::settled(came, ok);
         let delay = self.delay;
-        let starts = ending::starts_delay(state, delay, seen.open, seen.silent);
-        let told = ending::write_ok(out, at, pass, ok);
-        let end = ending::write_wait(out, told, pass, starts, seen.short);
+        let closed = closing::close(
+            out,
+            at,
+            self.pass,
+            came,
+            delay,
+            seen.open,
+            seen.silent,
+            seen.short,
+        );
+        let state = closed.state;
         self.state = state;
-        let next = ending::delayed(delay, starts);
+        let next = closed.delay;
         self.delay = next;
         Recorded {
             number: 0,
-            length: end,
+            length: closed.end,
             picture: self,
         }
     }

@@ -11,7 +11,6 @@ ghost use Rattle.lookup.specs.View.{lookupOf};
 ghost use Rattle.marks.specs.State.{stateNumber};
 ghost use Rattle.registry.specs.View.{viewOf};
 use super::image::RegistryImage;
-use closing::notes;
 use entries::outlook;
 use listing::flat;
 use listing::flat::Listing;

@@ -1,10 +1,12 @@
 -- What the entries leave open decides the ending.
-use Rattle.registry.proofs.Endings.{end-orders, end-picture, ends, room-first, room-second}
+use Rattle.registry.proofs.Endings.{end-orders, end-picture, ends}
 use Rattle.registry.specs.View.{viewOf}
-use Rattle.rules.specs.Order.{OK, WAIT-LONG, WAIT-SHORT}
+use Rattle.rules.specs.Order.{Order, encodeAll}
 use borrow.Author.Needs.{needs}
-use mathlib.Core.Bool.{cond}
-use mathlib.Core.List.{[], _∷_}
+use lib.ListN.{length}
+use mathlib.Core.List.{List}
+use mathlib.Core.Path.{subst}
+use Prim.Native.Nat.{_+_, _≤_}
 use Rattle.registry.proofs.image.RegistryImage.finish.Statement.{statement}
 use Rattle.registry.proofs.image.RegistryImage.finish.Tie as tie
 
@@ -14,38 +16,14 @@ cast-outlook-of c = search needs
 outlook-of-requires : tie.Need-outlook-of-requires
 outlook-of-requires c κs = search needs
 
-becomes-ok-requires : tie.Need-becomes-ok-requires
-becomes-ok-requires c κs = search needs
-
-settled-requires : tie.Need-settled-requires
-settled-requires c κs = search needs
-
-starts-delay-requires : tie.Need-starts-delay-requires
-starts-delay-requires c κs = search needs
-
-write-ok-requires : tie.Need-write-ok-requires
+close-requires : tie.Need-close-requires
 unfolding viewOf
-write-ok-requires c κs =
-    let at-starts-delay = c .before in
-    let at-settled = at-starts-delay .before .before in
-    let at-becomes-ok = at-settled .before in
-    let at-outlook-of = at-becomes-ok .before .before in
+close-requires c κs =
+    let at-outlook-of = c .before .before .before in
     let start = at-outlook-of .before .before .before .before in
-    room-first (start .args .self .pass) (cond (at-becomes-ok .becomes-ok .result) (OK ∷ []) []) (cond (at-starts-delay .starts-delay .result) (cond (at-outlook-of .outlook-of .result .short) WAIT-SHORT WAIT-LONG ∷ []) []) (end-orders (viewOf (start .args .self)) (at-outlook-of .outlook-of .ensures .0) (at-outlook-of .outlook-of .ensures .1) (at-outlook-of .outlook-of .ensures .2) (at-becomes-ok .becomes-ok .ensures) (at-settled .settled .ensures) (at-starts-delay .starts-delay .ensures)) (start .args .at) (start .args .out .now) (start .pre)
-
-write-wait-requires : tie.Need-write-wait-requires
-unfolding viewOf
-write-wait-requires c κs =
-    let at-write-ok = c .before .before .before in
-    let at-starts-delay = at-write-ok .before .before in
-    let at-settled = at-starts-delay .before .before in
-    let at-becomes-ok = at-settled .before in
-    let at-outlook-of = at-becomes-ok .before .before in
-    let start = at-outlook-of .before .before .before .before in
-    room-second (start .args .self .pass) (cond (at-becomes-ok .becomes-ok .result) (OK ∷ []) []) (cond (at-starts-delay .starts-delay .result) (cond (at-outlook-of .outlook-of .result .short) WAIT-SHORT WAIT-LONG ∷ []) []) (end-orders (viewOf (start .args .self)) (at-outlook-of .outlook-of .ensures .0) (at-outlook-of .outlook-of .ensures .1) (at-outlook-of .outlook-of .ensures .2) (at-becomes-ok .becomes-ok .ensures) (at-settled .settled .ensures) (at-starts-delay .starts-delay .ensures)) (start .args .at) (start .args .out .now) (start .pre) (at-write-ok .write-ok .ensures)
-
-delayed-requires : tie.Need-delayed-requires
-delayed-requires c κs = search needs
+    let s = start .args .self in
+    let seen = at-outlook-of .outlook-of .ensures in
+    subst (λ (os : List Order). start .args .at + length (encodeAll (s .pass) os) ≤ length (start .args .out .now)) (end-orders (viewOf s) (seen .0) (seen .1) (seen .2)) (start .pre)
 
 same-length : tie.Need-same-length
 same-length c = search needs
@@ -53,14 +31,12 @@ same-length c = search needs
 returns : tie.Need-returns
 unfolding viewOf
 returns c =
-    let at-write-wait = c .before .before .before in
-    let at-write-ok = at-write-wait .before .before .before .before in
-    let at-starts-delay = at-write-ok .before .before in
-    let at-settled = at-starts-delay .before .before in
-    let at-becomes-ok = at-settled .before in
-    let at-outlook-of = at-becomes-ok .before .before in
-    let start = at-outlook-of .before .before .before .before in
-    ends (viewOf (start .args .self)) _ (cond (at-becomes-ok .becomes-ok .result) (OK ∷ []) []) (cond (at-starts-delay .starts-delay .result) (cond (at-outlook-of .outlook-of .result .short) WAIT-SHORT WAIT-LONG ∷ []) []) (end-picture (viewOf (start .args .self)) (at-outlook-of .outlook-of .ensures .0) (at-outlook-of .outlook-of .ensures .1) (at-outlook-of .outlook-of .ensures .2) (at-becomes-ok .becomes-ok .ensures) (at-settled .settled .ensures) (at-starts-delay .starts-delay .ensures) (c .delayed .ensures)) (end-orders (viewOf (start .args .self)) (at-outlook-of .outlook-of .ensures .0) (at-outlook-of .outlook-of .ensures .1) (at-outlook-of .outlook-of .ensures .2) (at-becomes-ok .becomes-ok .ensures) (at-settled .settled .ensures) (at-starts-delay .starts-delay .ensures)) (at-write-ok .write-ok .ensures) (at-write-wait .write-wait .ensures)
+    let at-close = c .before .before .before .before in
+    let at-outlook-of = at-close .before .before .before .before in
+    let s = at-outlook-of .before .before .before .before .args .self in
+    let seen = at-outlook-of .outlook-of .ensures in
+    let closes = at-close .close .ensures in
+    ends (viewOf s) (seen .0) (seen .1) (seen .2) _ (end-picture (viewOf s) (seen .0) (seen .1) (seen .2) (closes .state) (closes .delay)) closes
 
 pub finish-spec : {M : Type 1} → statement M
 finish-spec =
@@ -68,11 +44,6 @@ finish-spec =
     (tie.spec
     cast-outlook-of
     outlook-of-requires
-    becomes-ok-requires
-    settled-requires
-    starts-delay-requires
-    write-ok-requires
-    write-wait-requires
-    delayed-requires
+    close-requires
     same-length
     returns)

@@ -3,7 +3,7 @@ use Rattle.entries.specs.Tests.{countsFor, struck}
 use Rattle.registry.proofs.Doing.{done, end-room, front-room}
 use Rattle.registry.proofs.Places.{put-counted}
 use Rattle.registry.proofs.Telling.{told-rows}
-use Rattle.closing.specs.Told.{rowsTold}
+use Rattle.notes.specs.Told.{rowsTold}
 use Rattle.marks.specs.State.{runs, stateOf}
 use Rattle.registry.specs.View.{viewOf}
 use Rattle.rules.specs.Picture.{seatAt, withRows}

@@ -2,7 +2,7 @@
 use Rattle.marks.specs.State.{runs, stateOf}
 use Rattle.numbering.specs.Marks.{renumberingOf}
 use Rattle.registry.proofs.Places.{put-entry}
-use Rattle.registry.proofs.Replying.{closing-room, replied, set-room, told-room}
+use Rattle.registry.proofs.Replying.{closing-room, replied, told-room}
 use Rattle.registry.specs.View.{viewOf}
 use Rattle.rules.specs.Picture.{withRows}
 use borrow.Author.Needs.{needs}
@@ -23,20 +23,12 @@ mul-entry c = search needs
 element-copy-out-entry : tie.Need-element-copy-out-entry
 element-copy-out-entry c = search needs
 
-tell-entry-requires : tie.Need-tell-entry-requires
-tell-entry-requires c κs =
+tell-reply-requires : tie.Need-tell-reply-requires
+tell-reply-requires c κs =
     let start = c .before .before .before .before .before in
     let s = start .args .t1 in
     let x = start .args .position .0 in
     (start .pre .1, told-room s x (start .pre .0) (start .args .address .0) (start .args .next) _ (renumberingOf (start .args .step)) (start .args .out .now) (start .pre .2))
-
-write-renumbering-requires : tie.Need-write-renumbering-requires
-write-renumbering-requires c κs =
-    let at-tell-entry = c .before .before .before in
-    let start = at-tell-entry .before .before .before .before .before .before in
-    let s = start .args .t1 in
-    let x = start .args .position .0 in
-    set-room s x (start .pre .0) (start .args .address .0) (start .args .next) _ (renumberingOf (start .args .step)) (start .args .out .now) (start .pre .2) (at-tell-entry .tell-entry .ensures)
 
 mul-next : tie.Need-mul-next
 mul-next c = search needs
@@ -47,12 +39,11 @@ element-set-from-next c = search needs
 finish-requires : tie.Need-finish-requires
 unfolding viewOf withRows
 finish-requires c κs =
-    let at-write-renumbering = c .before .before .before in
-    let at-tell-entry = at-write-renumbering .before .before .before .before in
-    let start = at-tell-entry .before .before .before .before .before .before in
+    let at-tell-reply = c .before .before .before in
+    let start = at-tell-reply .before .before .before .before .before .before in
     let s = start .args .t1 in
     let x = start .args .position .0 in
-    closing-room s x (start .pre .0) (start .args .address .0) (start .args .next) _ (renumberingOf (start .args .step)) (start .args .out .now) (start .pre .2) (at-tell-entry .tell-entry .ensures) (at-write-renumbering .write-renumbering .ensures)
+    closing-room s x (start .pre .0) (start .args .address .0) (start .args .next) _ (renumberingOf (start .args .step)) (start .args .out .now) (start .pre .2) (at-tell-reply .tell-reply .ensures)
     (λ t. record { state = stateOf (s .state .0); pass = s .pass; size = s .size; delay = runs (s .delay .0); rows = put-entry s x (start .pre .0) (start .args .next) refl t })
 
 same-length : tie.Need-same-length
@@ -62,12 +53,11 @@ returns : tie.Need-returns
 unfolding viewOf withRows
 returns c =
     let at-finish = c .before .before in
-    let at-write-renumbering = at-finish .before .before .before .before in
-    let at-tell-entry = at-write-renumbering .before .before .before .before in
-    let start = at-tell-entry .before .before .before .before .before .before in
+    let at-tell-reply = at-finish .before .before .before .before in
+    let start = at-tell-reply .before .before .before .before .before .before in
     let s = start .args .t1 in
     let x = start .args .position .0 in
-    replied s x (start .pre .0) (start .args .address .0) (start .args .next) _ (renumberingOf (start .args .step)) (start .args .out .now) (start .pre .2) (at-tell-entry .tell-entry .ensures) (at-write-renumbering .write-renumbering .ensures)
+    replied s x (start .pre .0) (start .args .address .0) (start .args .next) _ (renumberingOf (start .args .step)) (start .args .out .now) (start .pre .2) (at-tell-reply .tell-reply .ensures)
     (λ t. record { state = stateOf (s .state .0); pass = s .pass; size = s .size; delay = runs (s .delay .0); rows = put-entry s x (start .pre .0) (start .args .next) refl t }) (at-finish .finish .ensures)
 
 pub reply-spec : {M : Type 1} → statement M
@@ -78,8 +68,7 @@ reply-spec =
     sub-i
     mul-entry
     element-copy-out-entry
-    tell-entry-requires
-    write-renumbering-requires
+    tell-reply-requires
     mul-next
     element-set-from-next
     finish-requires

@@ -1,0 +1,119 @@
+// What is told of entries that have changed, and the SET of a renumbering.
+ghost use mathlib.Core.Path.{_≡_};
+ghost use mathlib.Core.List.{_++_};
+ghost use Prim.Native.Nat.{_+_, _≤_};
+ghost use lib.ListN.{length};
+ghost use Rattle.laws.specs.Buffers.{Wrote};
+ghost use Rattle.rules.specs.Picture.{isOk};
+ghost use Rattle.rules.specs.Order.{encodeAll};
+ghost use Rattle.rules.specs.Step.{setOrder};
+ghost use Rattle.node.specs.View.{rowOf, rowsOf};
+ghost use Rattle.numbering.specs.Marks.{renumberingOf};
+ghost use Rattle.marks.specs.State.{stateOf};
+ghost use Rattle.notes.specs.Told.{rowTold, rowsTold};
+use marks::NOTOK;
+use marks::OFF;
+use marks::RegistryState;
+use node::address::LogicalNodeAddress;
+use node::address::NodePosition;
+use node::entry::NodeEntry;
+use numbering::renumber::Renumbering;
+use orders::order;
+use orders::order::Delta;
+
+// The state is OK.
+pub fn is_ok(state: RegistryState) -> bool
+    ensures { λ r. ⌜ r ≡ isOk (stateOf (state .0)) ⌝ }
+{
+    if state.0 == OFF {
+        return false;
+    }
+    if state.0 == NOTOK {
+        return false;
+    }
+    true
+}
+
+// INVALID and NEW for one entry, where the state is OK.
+fn tell_entry(
+    out: &mut [u8],
+    pass: u32,
+    state: RegistryState,
+    size: u8,
+    before: NodeEntry,
+    after: NodeEntry,
+) -> usize
+    requires { ⌜ (3 ≤ size) × (length (encodeAll pass (rowTold (stateOf (state .0)) size (rowOf before) (rowOf after))) ≤ length (now out)) ⌝ }
+    ensures { λ r. ⌜ Wrote (now (out .entry)) 0 (encodeAll pass (rowTold (stateOf (state .0)) size (rowOf before) (rowOf after))) r (now (out .exit)) ⌝ }
+{
+    if is_ok(state) {
+        let old = before.pairs();
+        let new = after.pairs();
+        let at = order::write_delta(out, 0, pass, Delta::Invalid, size, old.missing(new));
+        return order::write_delta(out, at, pass, Delta::New, size, new.missing(old));
+    }
+    0
+}
+
+// INVALID and NEW for the first `count` entries, where the state is OK.
+pub fn tell_entries(
+    out: &mut [u8],
+    pass: u32,
+    state: RegistryState,
+    size: u8,
+    count: usize,
+    before: [NodeEntry; 63],
+    after: [NodeEntry; 63],
+) -> usize
+    requires { ⌜ (3 ≤ size) × (length (encodeAll pass (rowsTold (stateOf (state .0)) size (rowsOf count before) (rowsOf count after))) ≤ length (now out)) ⌝ }
+    ensures { λ r. ⌜ Wrote (now (out .entry)) 0 (encodeAll pass (rowsTold (stateOf (state .0)) size (rowsOf count before) (rowsOf count after))) r (now (out .exit)) ⌝ }
+{
+    if is_ok(state) {
+        let at = telling::write_changes(out, 0, pass, Delta::Invalid, size, count, before, after);
+        return telling::write_changes(out, at, pass, Delta::New, size, count, before, after);
+    }
+    0
+}
+
+// The SET of a renumbering, to the address that is kept.
+fn write_renumbering(
+    out: &mut [u8],
+    at: usize,
+    pass: u32,
+    position: NodePosition,
+    address: LogicalNodeAddress,
+    step: Renumbering,
+) -> usize
+    requires { ⌜ at + length (encodeAll pass (setOrder (position .0) (address .0) (renumberingOf step))) ≤ length (now out) ⌝ }
+    ensures { λ r. ⌜ Wrote (now (out .entry)) at (encodeAll pass (setOrder (position .0) (address .0) (renumberingOf step))) r (now (out .exit)) ⌝ }
+{
+    match step {
+        Renumbering::Finished => at,
+        Renumbering::Renumbers {
+            place: _,
+            tries: _,
+            block,
+            old,
+            new,
+        } => order::write_set(out, at, pass, position, address, block, old, new),
+    }
+}
+
+// What is told where one entry becomes another: INVALID and NEW, and the SET of a renumbering to the address that is kept.
+pub fn tell_reply(
+    out: &mut [u8],
+    pass: u32,
+    state: RegistryState,
+    size: u8,
+    before: NodeEntry,
+    after: NodeEntry,
+    position: NodePosition,
+    address: LogicalNodeAddress,
+    step: Renumbering,
+) -> usize
+    requires { ⌜ (3 ≤ size) × (length (encodeAll pass (rowTold (stateOf (state .0)) size (rowOf before) (rowOf after) ++ setOrder (position .0) (address .0) (renumberingOf step))) ≤ length (now out)) ⌝ }
+    ensures { λ r. ⌜ Wrote (now (out .entry)) 0 (encodeAll pass (rowTold (stateOf (state .0)) size (rowOf before) (rowOf after) ++ setOrder (position .0) (address .0) (renumberingOf step))) r (now (out .exit)) ⌝ }
+{
+    let told = tell_entry(out, pass, state, size, before, after);
+    write_renumbering(out, told, pass, position, address, step)
+}

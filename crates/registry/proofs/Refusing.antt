@@ -208,6 +208,14 @@ module _ (s : RegistryImage) (e : declared.Event) (ps : List Pair) (d : NodeEntr
       h ∙ late-pairs (viewOf s .state) (s .pass) (s .units) (rowOf (getD (s .entries) i d)) e ps
       ∙ ap (λ (k : ℕ). replyRefusal (viewOf s .state) (s .pass) (s .units) (rowOf (getD (s .entries) k d)) (eventOf e ps)) (at ∙ seat-same e ps)
 
+-- no number, where the event is known
+pub none-late : (s : RegistryImage) (ps : List Pair) (d : NodeEntry) {e f : declared.Event} {n : ℕ} → e ≡ f → n ≡ 0
+    → n ≡ replyRefusal (viewOf s .state) (s .pass) (s .units) (rowOf (getD (s .entries) (seatIn (eventOf e ps)) d)) (eventOf e ps)
+    → _≡_ {A = ℕ} 0 (replyRefusal (viewOf s .state) (s .pass) (s .units) (rowOf (getD (s .entries) (seatIn (eventOf f ps)) d)) (eventOf f ps))
+none-late s ps d g z h =
+    sym z ∙ h
+    ∙ ap (λ (f : declared.Event). replyRefusal (viewOf s .state) (s .pass) (s .units) (rowOf (getD (s .entries) (seatIn (eventOf f ps)) d)) (eventOf f ps)) g
+
 -- the entry at the place of a position that has a row
 module _ (s : RegistryImage) (x : ℕ) (h : Seat s x) {i : ℕ} (at : i ≡ placeIn x) where
   pub next-place : suc i ≡ x

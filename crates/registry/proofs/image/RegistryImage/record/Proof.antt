@@ -3,7 +3,8 @@ use Prim.Native.Nat.{ℕ, suc, _≤_}
 use Rattle.announcement.specs.Hearing.{Hears}
 use Rattle.announcement.specs.declared.hear.Heard.{Heard}
 use Rattle.marks.specs.State.{stateOf}
-use Rattle.node.specs.View.{pairsOf, rowOf, rowsOf}
+use Rattle.pairs.specs.View.{pairsOf}
+use Rattle.node.specs.View.{rowOf, rowsOf}
 use Rattle.records.specs.View.{eventOf}
 use Rattle.records.specs.declared.event.Event.{Event}
 use Rattle.registry.proofs.Doing.{refuses}

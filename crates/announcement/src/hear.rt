@@ -6,7 +6,8 @@ ghost use Rattle.laws.specs.Lists.{collect};
 ghost use Rattle.rules.specs.Picture.{Row, pairsIn, seatAt, others};
 ghost use Rattle.rules.specs.Renumber.{freeNumber, renumber, placeOf, triesOf};
 ghost use Rattle.rules.specs.Step.{statusAfter};
-ghost use Rattle.node.specs.View.{rowOf, rowsOf, pairsOf};
+ghost use Rattle.pairs.specs.View.{pairsOf};
+ghost use Rattle.node.specs.View.{rowOf, rowsOf};
 ghost use Rattle.judging.specs.Marks.{judgedOf};
 ghost use Rattle.numbering.specs.Marks.{renumberingOf};
 ghost use Rattle.announcement.specs.Hearing.{Hears, Keeps, heldBy};
@@ -16,9 +17,9 @@ use node::address::LogicalNodeAddress;
 use node::entry::LISTED;
 use node::entry::NodeEntry;
 use node::entry::SETTING;
-use node::pairs::Pairs;
 use numbering::renumber;
 use numbering::renumber::Renumbering;
+use pairs::Pairs;
 
 // A conflict, which is counted for the node, and for those that keep the address where it is shared; `limit` says that one of these
 // reaches the limit. Or no conflict: the node's next entry, and what is renumbered.

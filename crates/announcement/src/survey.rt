@@ -6,7 +6,8 @@ ghost use lib.Dec.{eqb};
 ghost use lib.ListN.{replicate};
 ghost use Rattle.laws.specs.Lists.{any, collect};
 ghost use Rattle.rules.specs.Picture.{noRow, bars, keeps, holds, pairsIn};
-ghost use Rattle.node.specs.View.{rowOf, rowsOf, pairsOf};
+ghost use Rattle.pairs.specs.View.{pairsOf};
+ghost use Rattle.node.specs.View.{rowOf, rowsOf};
 ghost use Rattle.entries.specs.Tests.{keepsAtLimit};
 ghost use Rattle.judging.specs.Marks.{orEach};
 ghost use Rattle.announcement.specs.Beside.{beside};
@@ -14,7 +15,7 @@ use entries::claims::Claims;
 use judging::held;
 use node::address::LogicalNodeAddress;
 use node::entry::NodeEntry;
-use node::pairs::Pairs;
+use pairs::Pairs;
 
 // The claims of the other entries on an address, and a mark for each announced pair that one of them keeps.
 pub struct Survey {

@@ -13,8 +13,8 @@ use Rattle.laws.specs.Lists.{any, collect}
 use Rattle.rules.specs.House.{minNumber, maxNumber}
 use Rattle.rules.specs.Picture.{Pair, samePair, holds}
 use Rattle.rules.specs.Renumber.{Judged, isGood, judge, goods}
-use Rattle.node.specs.View.{pairOf, pairsFrom}
-use Rattle.node.proofs.Arrays.{pairs-at, pairs-length}
+use Rattle.pairs.specs.View.{pairOf, pairsFrom}
+use Rattle.pairs.proofs.Arrays.{pairs-at, pairs-length}
 use Rattle.judging.specs.Marks.{orEach, isGoodMarked, judgeMarked, judgedOf}
 
 -- the judged pair at j, and those behind it

@@ -2,10 +2,10 @@
 ghost use mathlib.Core.Path.{_≡_};
 ghost use mathlib.Core.List.{map};
 ghost use Rattle.rules.specs.Picture.{holds};
-ghost use Rattle.node.specs.View.{pairsOf};
+ghost use Rattle.pairs.specs.View.{pairsOf};
 ghost use Rattle.judging.specs.Marks.{orEach};
-use node::pairs::Pairs;
 use node::tests::either;
+use pairs::Pairs;
 
 // Marks each announced pair that is kept here.
 pub fn mark_held(marks: &mut [bool; 16], kept: Pairs, announced: Pairs)

@@ -3,10 +3,10 @@ ghost use mathlib.Core.Path.{_≡_};
 ghost use mathlib.Core.List.{[]};
 ghost use lib.ListN.{take};
 ghost use Rattle.rules.specs.Renumber.{goods};
-ghost use Rattle.node.specs.View.{pairOf, pairsOf};
+ghost use Rattle.pairs.specs.View.{pairOf, pairsOf};
 ghost use Rattle.judging.specs.Marks.{isGoodMarked, judgeMarked, judgedOf};
-use node::pairs::Pairs;
-use node::pairs::one_if;
+use pairs::Pairs;
+use pairs::one_if;
 
 // The numbers that a pair may have.
 pub const MIN_NUMBER: u8 = 0x01;

@@ -5,7 +5,7 @@ ghost use Prim.Native.Nat.{_≤_};
 ghost use Rattle.rules.specs.Picture.{fresh, freshNumber};
 ghost use Rattle.rules.specs.Run.{step};
 ghost use Rattle.rules.specs.Listing.{listing, lookUp, lookupNumber, lookupPosition, lookupAddress};
-ghost use Rattle.node.specs.View.{pairOf};
+ghost use Rattle.pairs.specs.View.{pairOf};
 ghost use Rattle.listing.specs.View.{flatOf};
 ghost use Rattle.registry.specs.View.{viewOf};
 ghost use Rattle.registry.specs.Outcome.{Does, Reached};

@@ -8,7 +8,7 @@ use lib.ListN.{length, length-map, set, replicate}
 use Rattle.laws.specs.Buffers.{Wrote, Owes, owes-start, owes-on, owes-end, wrote-along}
 use Rattle.rules.specs.Picture.{Pair, Row, keptIn}
 use Rattle.rules.specs.Listing.{Entry, entry, entriesOf, entriesFrom}
-use Rattle.node.specs.View.{pairOf}
+use Rattle.pairs.specs.View.{pairOf}
 use Rattle.listing.specs.declared.flat.Listing.{Listing}
 use Rattle.listing.specs.View.{filled, flatOf}
 

@@ -8,7 +8,7 @@ use lib.ListN.{length, length-map, getD, drop, replicate, length-replicate, List
 use Rattle.laws.specs.Buffers.{sets-start}
 use Rattle.laws.specs.Lists.{upFrom}
 use Rattle.rules.specs.Listing.{Entry, entry}
-use Rattle.node.specs.View.{pairOf}
+use Rattle.pairs.specs.View.{pairOf}
 use Rattle.listing.specs.View.{filled, flatOf, entryAt, entriesIn}
 use Rattle.listing.specs.Promises.{Promises}
 

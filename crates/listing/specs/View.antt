@@ -6,7 +6,7 @@ use lib.Seq.{sets}
 use Rattle.laws.specs.Views.{firsts}
 use Rattle.laws.specs.Lists.{upFrom}
 use Rattle.rules.specs.Listing.{Entry, entry}
-use Rattle.node.specs.View.{pairOf}
+use Rattle.pairs.specs.View.{pairOf}
 use Rattle.listing.specs.declared.flat.Listing.{Listing}
 
 -- 1,008 places, zeros behind those that are filled

@@ -1,7 +1,8 @@
 // Where a pair is listed.
 ghost use mathlib.Core.Path.{_≡_};
 ghost use Rattle.rules.specs.Listing.{firstOf, entriesFrom, lookupNumber, lookupPosition, lookupAddress};
-ghost use Rattle.node.specs.View.{pairOf, rowsOf};
+ghost use Rattle.pairs.specs.View.{pairOf};
+ghost use Rattle.node.specs.View.{rowsOf};
 ghost use Rattle.lookup.specs.View.{lookupOf};
 use node::address::LogicalNodeAddress;
 use node::address::NodePosition;

@@ -8,7 +8,8 @@ use Rattle.laws.specs.Bools.{clash}
 use Rattle.rules.specs.Picture.{Pair, Status, WAITING, SETTING, LISTED, SILENT, IGNORED, Kept, nothing, kept, keptBy, keptIn, pairsIn, isIgnored, isIgnoredStatus, bars, barsStatus}
 use Rattle.rules.specs.Picture as rules
 use Rattle.node.specs.declared.entry.NodeEntry.{NodeEntry}
-use Rattle.node.specs.View.{statusOf, pairsFrom, rowOf, isKept, isListed}
+use Rattle.pairs.specs.View.{pairsFrom}
+use Rattle.node.specs.View.{statusOf, rowOf, isKept, isListed}
 
 module _ {X : Type 0} (f : Status → X) (a : ℕ) (ps : List Pair) (i t : ℕ) where
   pub by-mark : (m : ℕ)

@@ -1,28 +1,12 @@
--- What the code's values stand for: pairs, a node's entry, and the entries of a ring. Total: whatever the numbers are, they stand for something.
+-- What the code's values stand for: a node's entry, and the entries of a ring. Total: whatever the numbers are, they stand for something.
 use Prim.Native.Nat.{ℕ}
 use mathlib.Core.Bool.{Bool, true, false, cond}
-use mathlib.Core.List.{List, [], _∷_}
+use mathlib.Core.List.{List}
 use lib.Dec.{eqb}
 use Rattle.laws.specs.Views.{firsts}
 use Rattle.rules.specs.Picture.{Pair, Row, Status, WAITING, SETTING, LISTED, SILENT, IGNORED, Kept, nothing, kept, keptIn}
-use Rattle.node.specs.declared.pairs.Pairs.{Pairs}
+use Rattle.pairs.specs.View.{pairsFrom}
 use Rattle.node.specs.declared.entry.NodeEntry.{NodeEntry}
-
-unfoldable pub pairOf : (block number : ℕ) → Pair
-pairOf b n = record { block = b; number = n }
-
--- blocks and numbers side by side
-unfoldable pub zipPairs : (blocks numbers : List ℕ) → List Pair
-zipPairs [] ns = []
-zipPairs (b ∷ bs) [] = []
-zipPairs (b ∷ bs) (n ∷ ns) = pairOf b n ∷ zipPairs bs ns
-
--- the first so many pairs of two arrays
-unfoldable pub pairsFrom : ℕ → (blocks numbers : List ℕ) → List Pair
-pairsFrom k bs ns = firsts (λ (a : Pair). a) k (zipPairs bs ns)
-
-unfoldable pub pairsOf : Pairs → List Pair
-pairsOf p = pairsFrom (p .count) (p .blocks) (p .numbers)
 
 -- a status by its number: 0 WAITING, 1 SETTING, 2 LISTED, 3 SILENT, any other IGNORED
 unfoldable pub statusOf : (mark address : ℕ) → List Pair → (place tries : ℕ) → Status

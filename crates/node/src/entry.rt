@@ -5,9 +5,10 @@ ghost use Prim.Native.Nat.{min};
 ghost use Rattle.rules.specs.Picture.{Row, WAITING, isOpen, isSilent, isIgnored, keeps, keepsOther, bars, pairsIn, newRow, noRow};
 ghost use Rattle.rules.specs.Renumber.{placeOf, triesOf};
 ghost use Rattle.rules.specs.Step.{silenced, asked, ignored, counted, atLimit, emptied};
-ghost use Rattle.node.specs.View.{pairsOf, statusOf, rowOf, isListed};
+ghost use Rattle.pairs.specs.View.{pairsOf};
+ghost use Rattle.node.specs.View.{statusOf, rowOf, isListed};
 use super::address::LogicalNodeAddress;
-use super::pairs::Pairs;
+use pairs::Pairs;
 
 // The most nodes that have an entry: positions 1 to 63.
 pub const MAX_ENTRIES: usize = 63;

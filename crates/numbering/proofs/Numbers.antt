@@ -16,7 +16,7 @@ use Rattle.laws.specs.Lists.{any, collect}
 use Rattle.laws.specs.Alls.{any-append}
 use Rattle.rules.specs.Picture.{Pair, Row, pairsIn}
 use Rattle.rules.specs.Renumber.{numbersOf, isIn, leastFrom, leastFree, freeNumber}
-use Rattle.node.specs.View.{pairOf}
+use Rattle.pairs.specs.View.{pairOf}
 use Rattle.numbering.specs.Marks.{isMarked, Added, leastBy}
 
 numbers-append : (b : ℕ) (xs ys : List Pair) → numbersOf b (xs ++ ys) ≡ numbersOf b xs ++ numbersOf b ys

@@ -9,7 +9,7 @@ use lib.ListN.{length, getD}
 use Rattle.rules.specs.House.{maxTries}
 use Rattle.rules.specs.Renumber as rules
 use Rattle.rules.specs.Renumber.{Judged, isIn, offer, finished, renumbers}
-use Rattle.node.specs.View.{pairOf}
+use Rattle.pairs.specs.View.{pairOf}
 use Rattle.numbering.specs.declared.free.Free.{Free}
 use Rattle.numbering.specs.declared.free.Free.the-variants as frees
 use Rattle.numbering.specs.declared.renumber.Renumbering.{Renumbering}

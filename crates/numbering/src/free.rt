@@ -7,12 +7,13 @@ ghost use lib.ListN.{length};
 ghost use Rattle.laws.specs.Lists.{collect};
 ghost use Rattle.rules.specs.Picture.{pairsIn};
 ghost use Rattle.rules.specs.Renumber.{numbersOf, freeNumber};
-ghost use Rattle.node.specs.View.{pairsOf, rowsOf};
+ghost use Rattle.pairs.specs.View.{pairsOf};
+ghost use Rattle.node.specs.View.{rowsOf};
 ghost use Rattle.numbering.specs.Marks.{isMarked, Added, leastBy, freeOf};
 use judging::judge::MAX_NUMBER;
 use judging::judge::MIN_NUMBER;
 use node::entry::NodeEntry;
-use node::pairs::Pairs;
+use pairs::Pairs;
 
 // A free number, or none.
 pub enum Free {

@@ -4,13 +4,14 @@ ghost use Prim.Native.Nat.{_<_};
 ghost use Rattle.laws.specs.Lists.{collect};
 ghost use Rattle.rules.specs.Picture.{pairsIn};
 ghost use Rattle.rules.specs.Renumber.{freeNumber, finished, renumber};
-ghost use Rattle.node.specs.View.{pairOf, pairsOf, rowsOf};
+ghost use Rattle.pairs.specs.View.{pairOf, pairsOf};
+ghost use Rattle.node.specs.View.{rowsOf};
 ghost use Rattle.judging.specs.Marks.{judgedOf};
 ghost use Rattle.numbering.specs.Marks.{NoneFree, attemptOf, freeOf, isOffer, renumberingOf};
 use super::free;
 use super::free::Free;
 use node::entry::NodeEntry;
-use node::pairs::Pairs;
+use pairs::Pairs;
 
 // A pair is offered a number as often as this.
 pub const MAX_TRIES: u8 = 3;

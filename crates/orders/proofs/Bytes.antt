@@ -11,8 +11,8 @@ use Rattle.laws.specs.Lists.{collect}
 use Rattle.rules.specs.Picture.{Pair}
 use Rattle.rules.specs.Event.{two, four, pairBytes}
 use Rattle.rules.specs.Order.{Order, kindOf, bodyOf, encode}
-use Rattle.node.specs.View.{pairOf, pairsFrom}
-use Rattle.node.proofs.Arrays.{pairs-here}
+use Rattle.pairs.specs.View.{pairOf, pairsFrom}
+use Rattle.pairs.proofs.Arrays.{pairs-here}
 use Rattle.orders.specs.View.{noticeOf, deltaOf}
 use Rattle.orders.specs.declared.order.Notice.{Notice}
 use Rattle.orders.specs.declared.order.Notice.the-variants as notices

@@ -8,11 +8,11 @@ ghost use Rattle.laws.specs.Lists.{collect};
 ghost use Rattle.rules.specs.Event.{four, pairBytes};
 ghost use Rattle.rules.specs.Order.{ASK, SET, kindOf, encode, encodeAll};
 ghost use Rattle.rules.specs.Ending.{tell};
-ghost use Rattle.node.specs.View.{pairsOf};
+ghost use Rattle.pairs.specs.View.{pairsOf};
 ghost use Rattle.orders.specs.View.{noticeOf, deltaOf};
 use node::address::LogicalNodeAddress;
 use node::address::NodePosition;
-use node::pairs::Pairs;
+use pairs::Pairs;
 
 // The mark that an order begins with.
 const MARK_FIRST: u8 = 0x4D;

@@ -12,7 +12,7 @@ use lib.Dec.{leb, eqb}
 use Rattle.laws.specs.Lists.{any}
 use Rattle.rules.specs.Picture.{Pair}
 use Rattle.rules.specs.Event.{ANSWER, be2, be4, readPairs, badBlock, check, decodeAnswer}
-use Rattle.node.specs.View.{pairOf}
+use Rattle.pairs.specs.View.{pairOf}
 
 -- the pair that stands at a place, and those behind it
 pub read-here : (b : List ℕ) (at : ℕ) → at + 2 ≤ length b → readPairs (drop at b) ≡ pairOf (getD b at 0) (getD b (at + 1) 0) ∷ readPairs (drop (at + 2) b)

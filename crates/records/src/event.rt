@@ -7,12 +7,12 @@ ghost use lib.Dec.{eqb};
 ghost use lib.ListN.{length, drop};
 ghost use Rattle.laws.specs.Lists.{any};
 ghost use Rattle.rules.specs.Event.{SHUTDOWN, DELAY, check, readPairs, badBlock, goodNodes, decodePlain, decodeAnswer, decode};
-ghost use Rattle.node.specs.View.{pairOf, pairsOf};
+ghost use Rattle.pairs.specs.View.{pairOf, pairsOf};
 ghost use Rattle.records.specs.View.{eventOf};
 use node::address::LogicalNodeAddress;
 use node::address::NodePosition;
-use node::pairs::MAX_PAIRS;
-use node::pairs::Pairs;
+use pairs::MAX_PAIRS;
+use pairs::Pairs;
 
 // The mark that an event begins with.
 const MARK_FIRST: u8 = 0x4D;

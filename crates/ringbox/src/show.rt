@@ -11,9 +11,9 @@ use node::entry::LISTED;
 use node::entry::NodeEntry;
 use node::entry::SETTING;
 use node::entry::SILENT;
-use node::pairs::Pairs;
 use output::Output;
 use output::SPACE;
+use pairs::Pairs;
 use registry::image::RegistryImage;
 
 fn state_name(output: Output, text: &mut [u8; SPACE], state: u8) -> Output {

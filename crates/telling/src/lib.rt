@@ -7,16 +7,17 @@ ghost use Rattle.laws.specs.Buffers.{Wrote};
 ghost use Rattle.rules.specs.Order.{encodeAll};
 ghost use Rattle.rules.specs.Step.{asks};
 ghost use Rattle.rules.specs.Ending.{tell, tellRows};
-ghost use Rattle.node.specs.View.{pairsOf, rowOf, rowsOf};
+ghost use Rattle.pairs.specs.View.{pairsOf};
+ghost use Rattle.node.specs.View.{rowOf, rowsOf};
 ghost use Rattle.orders.specs.View.{deltaOf};
 ghost use Rattle.telling.specs.View.{whichOf, changesOf};
 use node::address::NodePosition;
 use node::entry::NodeEntry;
 use node::entry::clamp;
-use node::pairs::Pairs;
 use orders::order::Delta;
 use orders::order::write_ask;
 use orders::order::write_delta;
+use pairs::Pairs;
 
 // The entries that are asked: those whose question is open, or the SILENT ones.
 pub enum Which {

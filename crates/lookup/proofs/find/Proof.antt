@@ -3,7 +3,8 @@ use Rattle.rules.specs.Picture.{Pair, holds}
 use Prim.Native.Nat.{_+_, _-_, _≤_}
 use Rattle.lookup.proofs.Seeking.{first-here, first-none, first-on}
 use Rattle.node.proofs.Arrays.{rows-here, rows-past}
-use Rattle.node.specs.View.{pairOf, rowsOf}
+use Rattle.pairs.specs.View.{pairOf}
+use Rattle.node.specs.View.{rowsOf}
 use Rattle.rules.specs.Listing.{entriesFrom, firstOf}
 use borrow.Author.Needs.{needs}
 use lib.ListN.{drop, length}

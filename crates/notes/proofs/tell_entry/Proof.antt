@@ -1,5 +1,6 @@
 -- INVALID, then NEW.
-use Rattle.node.specs.View.{pairsOf, rowOf}
+use Rattle.pairs.specs.View.{pairsOf}
+use Rattle.node.specs.View.{rowOf}
 use Rattle.orders.proofs.Writing.{told-else, told-room, told-room-2, told-wrote}
 use Rattle.notes.specs.Told.{rowTold}
 use Rattle.marks.specs.State.{stateOf}

@@ -1,5 +1,5 @@
 -- By the case.
-use Rattle.node.specs.View.{pairOf}
+use Rattle.pairs.specs.View.{pairOf}
 use Rattle.numbering.specs.Marks.{renumberingOf}
 use Rattle.orders.proofs.Writing.{set-none, set-room, set-wrote}
 use borrow.Author.Needs.{needs}

@@ -5,7 +5,8 @@ use Rattle.announcement.proofs.Seats.{seat-pairs}
 use Rattle.judging.specs.Marks.{orEach}
 use Rattle.laws.specs.Lists.{collect}
 use Rattle.node.proofs.Arrays.{rows-length}
-use Rattle.node.specs.View.{pairsOf, rowOf, rowsOf}
+use Rattle.pairs.specs.View.{pairsOf}
+use Rattle.node.specs.View.{rowOf, rowsOf}
 use Rattle.numbering.specs.Marks.{renumberingOf}
 use Rattle.rules.specs.Picture.{holds, keptBy, noRow, pairsIn}
 use Rattle.rules.specs.Picture as rules

@@ -1,8 +1,9 @@
 -- The pairs are judged, and a bad one is renumbered.
 use Prim.Native.Nat.{suc, _≤_}
 use Rattle.announcement.proofs.Hearing.{row-for, set-for, set-none}
-use Rattle.node.proofs.Arrays.{pairs-length}
-use Rattle.node.specs.View.{pairsOf, rowOf, rowsOf}
+use Rattle.pairs.proofs.Arrays.{pairs-length}
+use Rattle.pairs.specs.View.{pairsOf}
+use Rattle.node.specs.View.{rowOf, rowsOf}
 use Rattle.node.specs.declared.entry.NodeEntry.{NodeEntry}
 use Rattle.numbering.specs.Marks.{renumberingOf}
 use Rattle.numbering.specs.declared.renumber.Renumbering.{Renumbering}

@@ -1,5 +1,6 @@
 -- By the case.
-use Rattle.node.specs.View.{pairsOf, statusOf}
+use Rattle.pairs.specs.View.{pairsOf}
+use Rattle.node.specs.View.{statusOf}
 use Rattle.numbering.specs.Marks.{renumberingOf}
 use Rattle.rules.specs.Step.{statusAfter}
 use borrow.Author.Needs.{needs}

@@ -2,7 +2,8 @@
 use Prim.Native.Nat.{suc, _<_}
 use Rattle.laws.specs.Lists.{collect}
 use Rattle.announcement.proofs.Seats.{pairs-beside}
-use Rattle.node.specs.View.{pairsOf, rowsOf}
+use Rattle.pairs.specs.View.{pairsOf}
+use Rattle.node.specs.View.{rowsOf}
 use Rattle.node.proofs.Arrays.{rows-length}
 use Rattle.judging.specs.Marks.{judgedOf}
 use Rattle.rules.specs.Renumber.{freeNumber, renumber}

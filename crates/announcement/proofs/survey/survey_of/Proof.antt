@@ -3,7 +3,8 @@ use Prim.Native.Nat.{_-_, _<_, _≤_, min}
 use Rattle.entries.specs.Tests.{keepsAtLimit}
 use Rattle.laws.specs.Lists.{any, collect}
 use Rattle.laws.specs.Views.{any-end}
-use Rattle.node.specs.View.{pairsOf, rowsOf}
+use Rattle.pairs.specs.View.{pairsOf}
+use Rattle.node.specs.View.{rowsOf}
 use Rattle.judging.proofs.Holding.{held-end, held-on}
 use Rattle.judging.specs.Marks.{orEach}
 use Rattle.rules.specs.Picture.{bars, holds, keeps, pairsIn}

@@ -1,7 +1,7 @@
 -- What is left to mark decides.
 use Prim.Native.Nat.{_-_, _<_, _≤_, min}
-use Rattle.node.proofs.Arrays.{pairs-at, pairs-length}
-use Rattle.node.specs.View.{pairOf, pairsOf}
+use Rattle.pairs.proofs.Arrays.{pairs-at, pairs-length}
+use Rattle.pairs.specs.View.{pairOf, pairsOf}
 use Rattle.judging.proofs.Holding.{or-end, or-on, orFrom}
 use Rattle.judging.specs.Marks.{orEach}
 use Rattle.rules.specs.Picture.{holds}

@@ -1,8 +1,8 @@
 -- At every turn the pairs found so far and the good ones of the rest are all good ones.
 use Prim.Native.Nat.{_-_, _<_, _≤_}
 use Rattle.laws.specs.Views.{firsts}
-use Rattle.node.proofs.Arrays.{pairs-next}
-use Rattle.node.specs.View.{pairsFrom, pairsOf}
+use Rattle.pairs.proofs.Arrays.{pairs-next}
+use Rattle.pairs.specs.View.{pairsFrom, pairsOf}
 use Rattle.judging.proofs.Judging.{goods-end, goods-on, judged-at, judged-end}
 use Rattle.judging.specs.Marks.{judgedOf}
 use Rattle.rules.specs.Renumber.{goods}

@@ -1,5 +1,5 @@
 -- The tests in their order.
-use Rattle.node.specs.View.{pairOf}
+use Rattle.pairs.specs.View.{pairOf}
 use Rattle.judging.specs.Marks.{isGoodMarked}
 use Rattle.rules.specs.Picture.{Pair, holds}
 use borrow.Author.Needs.{needs}

@@ -1,7 +1,7 @@
 -- At every turn what is judged so far, and the judging of the rest, are the whole.
 use Prim.Native.Nat.{_-_, _<_, _≤_, min}
-use Rattle.node.proofs.Arrays.{pairs-at, pairs-length}
-use Rattle.node.specs.View.{pairOf, pairsOf}
+use Rattle.pairs.proofs.Arrays.{pairs-at, pairs-length}
+use Rattle.pairs.specs.View.{pairOf, pairsOf}
 use Rattle.judging.proofs.Judging.{judge-end, judge-on}
 use Rattle.judging.specs.Marks.{isGoodMarked, judgeMarked, judgedOf}
 use borrow.Author.Needs.{needs}

@@ -1,9 +1,9 @@
 -- At every turn the entries that are left, stored from here on, make the whole.
-use Rattle.node.specs.View.{pairsOf}
+use Rattle.pairs.specs.View.{pairsOf}
 use Prim.Native.Nat.{_+_, _-_, _≤_}
 use Rattle.listing.proofs.Listed.{Stored, stored-end, stored-pair, stored-start}
 use Rattle.node.proofs.Entries.{entries-kept}
-use Rattle.node.proofs.Arrays.{pairs-here, pairs-past}
+use Rattle.pairs.proofs.Arrays.{pairs-here, pairs-past}
 use Rattle.rules.specs.Listing.{entry}
 use borrow.Author.Needs.{needs}
 use lib.ListN.{drop, length, length-set}

@@ -1,6 +1,7 @@
 -- A table that starts empty, marked twice.
 use Rattle.laws.specs.Lists.{collect}
-use Rattle.node.specs.View.{pairsOf, rowsOf}
+use Rattle.pairs.specs.View.{pairsOf}
+use Rattle.node.specs.View.{rowsOf}
 use Rattle.numbering.proofs.Numbers.{least-free}
 use Rattle.rules.specs.Picture.{pairsIn}
 use borrow.Author.Needs.{needs}

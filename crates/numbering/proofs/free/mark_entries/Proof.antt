@@ -2,7 +2,8 @@
 use Prim.Native.Nat.{_-_, _≤_}
 use Rattle.laws.specs.Lists.{collect}
 use Rattle.node.proofs.Arrays.{rows-here, rows-past}
-use Rattle.node.specs.View.{pairsOf, rowsOf}
+use Rattle.pairs.specs.View.{pairsOf}
+use Rattle.node.specs.View.{rowsOf}
 use Rattle.numbering.proofs.Numbers.{Left, left-end, left-on, left-start, numbers-row, rows-none}
 use Rattle.rules.specs.Picture.{pairsIn}
 use Rattle.rules.specs.Renumber.{numbersOf}

@@ -1,7 +1,7 @@
 -- At every turn the numbers that are left, marked from here on, make the whole.
 use Prim.Native.Nat.{_-_, _≤_}
-use Rattle.node.proofs.Arrays.{pairs-here, pairs-past}
-use Rattle.node.specs.View.{pairOf, pairsOf}
+use Rattle.pairs.proofs.Arrays.{pairs-here, pairs-past}
+use Rattle.pairs.specs.View.{pairOf, pairsOf}
 use Rattle.numbering.proofs.Numbers.{Left, added-at, left-end, left-on, left-start, numbers-none, numbers-pair}
 use Rattle.rules.specs.Renumber.{numbersOf}
 use borrow.Author.Needs.{needs}

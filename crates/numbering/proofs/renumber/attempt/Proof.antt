@@ -1,7 +1,8 @@
 -- The tests in their order.
 use Prim.Native.Nat.{ℕ}
 use Rattle.laws.specs.Lists.{collect}
-use Rattle.node.specs.View.{pairOf, pairsOf, rowsOf}
+use Rattle.pairs.specs.View.{pairOf, pairsOf}
+use Rattle.node.specs.View.{rowsOf}
 use Rattle.numbering.proofs.Offers.{offers, offers-none}
 use Rattle.numbering.specs.Marks.{NoneFree, attemptOf, freeOf}
 use Rattle.rules.specs.Picture.{pairsIn}

@@ -1,6 +1,7 @@
 -- The block that has none, or a search.
 use Rattle.laws.specs.Lists.{collect}
-use Rattle.node.specs.View.{pairsOf, rowsOf}
+use Rattle.pairs.specs.View.{pairsOf}
+use Rattle.node.specs.View.{rowsOf}
 use Rattle.rules.specs.Picture.{pairsIn}
 use Rattle.rules.specs.Renumber.{freeNumber}
 use borrow.Author.Needs.{needs}

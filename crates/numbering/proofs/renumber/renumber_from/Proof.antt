@@ -1,7 +1,8 @@
 -- What is left from the place on decides.
 use Prim.Native.Nat.{_-_}
 use Rattle.laws.specs.Lists.{collect}
-use Rattle.node.specs.View.{pairsOf, rowsOf}
+use Rattle.pairs.specs.View.{pairsOf}
+use Rattle.node.specs.View.{rowsOf}
 use Rattle.judging.proofs.Judging.{judged-at, judged-end}
 use Rattle.judging.specs.Marks.{judgedOf}
 use Rattle.numbering.proofs.Offers.{turn-offered, turn-passed}

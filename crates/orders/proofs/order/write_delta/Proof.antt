@@ -1,8 +1,8 @@
 -- At every turn the orders for the pairs that are left, written from here on, make the whole.
-use Rattle.node.specs.View.{pairsOf}
+use Rattle.pairs.specs.View.{pairsOf}
 use Prim.Native.Nat.{_-_, _≤_}
 use Rattle.laws.specs.Buffers.{Owes, owes-end, owes-start}
-use Rattle.node.proofs.Arrays.{pairs-length}
+use Rattle.pairs.proofs.Arrays.{pairs-length}
 use Rattle.orders.proofs.Tellings.{tell-end, tell-room, tell-turn}
 use Rattle.orders.specs.View.{deltaOf}
 use Rattle.rules.specs.Ending.{tell}

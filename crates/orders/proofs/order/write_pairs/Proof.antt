@@ -1,5 +1,5 @@
 -- At every turn the pairs that are left, written from here on, make the whole.
-use Rattle.node.specs.View.{pairsOf}
+use Rattle.pairs.specs.View.{pairsOf}
 use Prim.Native.Nat.{_+_, _-_, _≤_}
 use Rattle.laws.specs.Buffers.{Owes, owes-end, owes-on, owes-start}
 use Rattle.laws.specs.Lists.{collect}

@@ -1,6 +1,6 @@
 -- The head, the count, and the pairs.
-use Rattle.node.specs.View.{pairsOf}
-use Rattle.node.proofs.Arrays.{pairs-length}
+use Rattle.pairs.specs.View.{pairsOf}
+use Rattle.pairs.proofs.Arrays.{pairs-length}
 use Rattle.orders.proofs.Bytes.{delta-length, head-end, part-length, wrote-delta}
 use borrow.Author.Needs.{needs}
 use lib.ListN.{drop, length-set, take}

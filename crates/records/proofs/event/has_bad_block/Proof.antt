@@ -1,9 +1,9 @@
 -- A search: what is left to look at decides.
-use Rattle.node.specs.View.{pairOf, pairsOf}
+use Rattle.pairs.specs.View.{pairOf, pairsOf}
 use Prim.Native.Nat.{_-_, _≤_}
 use Rattle.laws.specs.Lists.{any}
 use Rattle.laws.specs.Views.{any-empty, any-here, any-skip}
-use Rattle.node.proofs.Arrays.{pairs-here, pairs-past}
+use Rattle.pairs.proofs.Arrays.{pairs-here, pairs-past}
 use Rattle.rules.specs.Event.{badBlock}
 use borrow.Author.Needs.{needs}
 use lib.ListN.{drop, length}

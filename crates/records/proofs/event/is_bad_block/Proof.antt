@@ -1,5 +1,5 @@
 -- The two limits.
-use Rattle.node.specs.View.{pairOf}
+use Rattle.pairs.specs.View.{pairOf}
 use Rattle.rules.specs.Event.{badBlock}
 use borrow.Author.Tests.{le-leb, le-ltb, lt-leb, lt-ltb}
 use native.Mathlib.Omega.{arith}

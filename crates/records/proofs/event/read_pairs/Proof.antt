@@ -1,7 +1,7 @@
 -- At every turn the pairs read so far and those that still stand there are all pairs.
 use Rattle.laws.specs.Views.{firsts}
-use Rattle.node.proofs.Arrays.{pairs-push}
-use Rattle.node.specs.View.{pairsFrom, pairsOf}
+use Rattle.pairs.proofs.Arrays.{pairs-push}
+use Rattle.pairs.specs.View.{pairsFrom, pairsOf}
 use Prim.Native.Nat.{ℕ, _*_, _+_, _-_, _≤_}
 use Rattle.records.proofs.Readings.{read-end, read-on}
 use Rattle.rules.specs.Event.{readPairs}

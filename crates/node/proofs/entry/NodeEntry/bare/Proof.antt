@@ -1,6 +1,7 @@
 -- No pairs are kept where the count is 0.
 use Rattle.laws.specs.Views.{firsts}
-use Rattle.node.specs.View.{pairsFrom, rowOf}
+use Rattle.pairs.specs.View.{pairsFrom}
+use Rattle.node.specs.View.{rowOf}
 use mathlib.Core.Path.{refl}
 use Rattle.node.proofs.entry.NodeEntry.bare.Statement.{statement}
 use Rattle.node.proofs.entry.NodeEntry.bare.Tie as tie

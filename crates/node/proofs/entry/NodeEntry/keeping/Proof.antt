@@ -1,7 +1,8 @@
 -- As many pairs as there are, at most 16.
 use Prim.Native.Nat.{ℕ}
-use Rattle.node.proofs.Arrays.{pairs-min}
-use Rattle.node.specs.View.{pairsFrom, pairsOf, rowOf, statusOf}
+use Rattle.pairs.proofs.Arrays.{pairs-min}
+use Rattle.pairs.specs.View.{pairsFrom, pairsOf}
+use Rattle.node.specs.View.{rowOf, statusOf}
 use Rattle.rules.specs.Cases.{silences}
 use borrow.Author.Needs.{needs}
 use mathlib.Core.Path.{_∙_, ap}

@@ -1,6 +1,6 @@
 -- Pairs count while the entry is listed.
 use Rattle.node.proofs.Marks.{pairs-else, pairs-listed}
-use Rattle.node.specs.View.{pairsOf}
+use Rattle.pairs.specs.View.{pairsOf}
 use borrow.Author.Needs.{needs}
 use mathlib.Core.Path.{_∙_, sym}
 use Rattle.node.proofs.entry.NodeEntry.pairs.Statement.{statement}

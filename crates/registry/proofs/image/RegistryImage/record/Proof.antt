@@ -4,7 +4,7 @@ use Rattle.announcement.specs.Hearing.{Hears, answered}
 use Rattle.node.specs.View.{rowsOf}
 use Rattle.node.specs.declared.address.LogicalNodeAddress.{LogicalNodeAddress}
 use Rattle.node.specs.declared.address.NodePosition.{NodePosition}
-use Rattle.node.specs.View.{pairsOf}
+use Rattle.pairs.specs.View.{pairsOf}
 use Rattle.marks.specs.State.{stateOf}
 use Rattle.records.specs.View.{eventOf}
 use Rattle.records.specs.declared.event.Event.{Event}
@@ -26,7 +26,6 @@ use borrow.Author.Needs.{needs}
 use lib.ListN.{length}
 use mathlib.Core.List.{List, []}
 use mathlib.Core.Path.{_∙_, _≡_, ap, refl, subst, sym}
-use native.Mathlib.Omega.{arith}
 use Rattle.registry.proofs.image.RegistryImage.record.Statement.{statement}
 use Rattle.registry.proofs.image.RegistryImage.record.Tie as tie
 

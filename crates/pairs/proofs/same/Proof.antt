@@ -1,9 +1,9 @@
 -- Block first, then number.
-use Rattle.node.specs.View.{pairOf}
+use Rattle.pairs.specs.View.{pairOf}
 use Rattle.rules.specs.Picture.{samePair}
 use borrow.Author.Tests.{eq-eqb, ne-eqb}
-use Rattle.node.proofs.pairs.same.Statement.{statement}
-use Rattle.node.proofs.pairs.same.Tie as tie
+use Rattle.pairs.proofs.same.Statement.{statement}
+use Rattle.pairs.proofs.same.Tie as tie
 
 returns : tie.Need-returns
 unfolding samePair pairOf

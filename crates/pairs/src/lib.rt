@@ -6,7 +6,7 @@ ghost use Prim.Native.Nat.{_≤_, min};
 ghost use lib.ListN.{take};
 ghost use Rattle.rules.specs.Picture.{samePair, holds};
 ghost use Rattle.rules.specs.Ending.{missing};
-ghost use Rattle.node.specs.View.{pairOf, pairsOf};
+ghost use Rattle.pairs.specs.View.{pairOf, pairsOf};
 
 // The most pairs that a node keeps or announces.
 pub const MAX_PAIRS: usize = 16;

@@ -1,16 +1,16 @@
 -- At every turn the pairs found so far and those missing of the rest are all that are missing.
 use Prim.Native.Nat.{_-_, _≤_}
 use Rattle.laws.specs.Views.{firsts}
-use Rattle.node.proofs.Arrays.{missing-end, missing-on, pairs-here, pairs-next, pairs-past}
-use Rattle.node.specs.View.{pairsFrom, pairsOf}
+use Rattle.pairs.proofs.Arrays.{missing-end, missing-on, pairs-here, pairs-next, pairs-past}
+use Rattle.pairs.specs.View.{pairsFrom, pairsOf}
 use Rattle.rules.specs.Ending.{missing}
 use borrow.Author.Needs.{needs}
 use lib.ListN.{drop, length, length-set}
 use mathlib.Core.List.{_++_}
 use mathlib.Core.Path.{_≡_, refl}
 use native.Mathlib.Omega.{arith}
-use Rattle.node.proofs.pairs.Pairs.missing.Statement.{statement}
-use Rattle.node.proofs.pairs.Pairs.missing.Tie as tie
+use Rattle.pairs.proofs.Pairs.missing.Statement.{statement}
+use Rattle.pairs.proofs.Pairs.missing.Tie as tie
 
 abbrev Inv-loop : tie.InvT-loop
 Inv-loop other self n left₀ end₀ i₀ left end i = (i ≤ n) × (end ≤ i) × (length (self .blocks) ≡ 16) × (length (self .numbers) ≡ 16) × (length (left .blocks) ≡ 16) × (length (left .numbers) ≡ 16) × (pairsFrom end (left .blocks) (left .numbers) ++ missing (drop i (pairsOf self)) (pairsOf other) ≡ missing (pairsOf self) (pairsOf other))

@@ -2,8 +2,8 @@
 use borrow.Author.Needs.{needs}
 use mathlib.Core.Bool.{not}
 use mathlib.Core.Path.{_∙_, ap, sym}
-use Rattle.node.proofs.pairs.Pairs.lacks.Statement.{statement}
-use Rattle.node.proofs.pairs.Pairs.lacks.Tie as tie
+use Rattle.pairs.proofs.Pairs.lacks.Statement.{statement}
+use Rattle.pairs.proofs.Pairs.lacks.Tie as tie
 
 holds-requires : tie.Need-holds-requires
 holds-requires c κs = search needs

@@ -1,11 +1,11 @@
 -- A smaller count is another view of the same arrays.
 use Rattle.laws.specs.Views.{take-firsts, take-past}
-use Rattle.node.specs.View.{pairsFrom, pairsOf, zipPairs}
+use Rattle.pairs.specs.View.{pairsFrom, pairsOf, zipPairs}
 use Rattle.rules.specs.Picture.{Pair}
 use mathlib.Core.Path.{sym}
 use native.Mathlib.Omega.{arith}
-use Rattle.node.proofs.pairs.Pairs.first.Statement.{statement}
-use Rattle.node.proofs.pairs.Pairs.first.Tie as tie
+use Rattle.pairs.proofs.Pairs.first.Statement.{statement}
+use Rattle.pairs.proofs.Pairs.first.Tie as tie
 
 returns : tie.Need-returns
 unfolding pairsOf pairsFrom

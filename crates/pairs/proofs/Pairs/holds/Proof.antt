@@ -1,15 +1,15 @@
 -- A search: what is left to look at decides.
 use Prim.Native.Nat.{_-_, _≤_}
 use Rattle.laws.specs.Views.{any-empty, any-here, any-skip}
-use Rattle.node.proofs.Arrays.{pairs-here, pairs-past}
-use Rattle.node.specs.View.{pairOf, pairsOf}
+use Rattle.pairs.proofs.Arrays.{pairs-here, pairs-past}
+use Rattle.pairs.specs.View.{pairOf, pairsOf}
 use Rattle.rules.specs.Picture.{holds, samePair}
 use borrow.Author.Needs.{needs}
 use lib.ListN.{drop, length}
 use mathlib.Core.Path.{_∙_, _≡_, refl, sym}
 use native.Mathlib.Omega.{arith}
-use Rattle.node.proofs.pairs.Pairs.holds.Statement.{statement}
-use Rattle.node.proofs.pairs.Pairs.holds.Tie as tie
+use Rattle.pairs.proofs.Pairs.holds.Statement.{statement}
+use Rattle.pairs.proofs.Pairs.holds.Tie as tie
 
 abbrev Inv-loop : tie.InvT-loop
 Inv-loop block number self n i₀ i = (i ≤ n) × (length (self .blocks) ≡ 16) × (length (self .numbers) ≡ 16) × (holds (drop i (pairsOf self)) (pairOf block number) ≡ holds (pairsOf self) (pairOf block number))

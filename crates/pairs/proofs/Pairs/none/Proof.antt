@@ -1,9 +1,9 @@
 -- The count is 0.
 use Rattle.laws.specs.Views.{firsts}
-use Rattle.node.specs.View.{pairsFrom, pairsOf}
+use Rattle.pairs.specs.View.{pairsFrom, pairsOf}
 use mathlib.Core.Path.{refl}
-use Rattle.node.proofs.pairs.Pairs.none.Statement.{statement}
-use Rattle.node.proofs.pairs.Pairs.none.Tie as tie
+use Rattle.pairs.proofs.Pairs.none.Statement.{statement}
+use Rattle.pairs.proofs.Pairs.none.Tie as tie
 
 returns : tie.Need-returns
 unfolding pairsOf pairsFrom firsts

@@ -9,11 +9,12 @@ use Rattle.registry.specs.declared.image.MakeAnswer.the-variants as makes
 use Rattle.registry.specs.View.{makeNumberOf, makeAnswer}
 use Rattle.reassembly.specs.declared.Reassembly.{Reassembly}
 use Rattle.reassembly.specs.declared.Joined.{Joined}
-use Rattle.segmentation.specs.declared.CountAnswer.{CountAnswer}
+use Rattle.counting.specs.declared.CountAnswer.{CountAnswer}
 use Rattle.segmentation.specs.declared.CutAnswer.{CutAnswer}
 use Rattle.segmentation.specs.Answers as segmentation
 use Rattle.reassembly.specs.Answers as reassembly
-use Rattle.segmentation.specs.Answers.{countNumberOf, countValueOf, countAnswer, cutNumberOf, cutLengthOf}
+use Rattle.counting.specs.Answers.{countNumberOf, countValueOf, countAnswer}
+use Rattle.segmentation.specs.Answers.{cutNumberOf, cutLengthOf}
 use Rattle.reassembly.specs.Answers.{joinNumberOf, joinMsgIdOf, joinLengthOf, joinAnswer}
 use Rattle.transport.proofs.Promises.{promises}
 use Rattle.lathepetal.specs.Numbers.{Cuts, Joins, completeOf, complete}

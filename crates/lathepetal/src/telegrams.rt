@@ -50,7 +50,7 @@ fn complete(answer: JoinAnswer) -> u8
 pub extern "C" fn lathepetal_count(l: usize, payload: &[u8]) -> CountOutcome
     ensures { λ r. ⌜ (r .number ≡ countNumber (count l (now (payload .entry)))) × (r .telegrams ≡ countValue (count l (now (payload .entry)))) ⌝ }
 {
-    let answer = segmentation::count(l, payload);
+    let answer = counting::count(l, payload);
     CountOutcome {
         number: answer.number(),
         telegrams: answer.telegrams(),

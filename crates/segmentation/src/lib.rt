@@ -1,12 +1,12 @@
-// Segmentation: how many telegrams a message has, and each of them by its number.
+// Segmentation: each telegram of a message by its number.
 ghost use mathlib.Core.Bool.{true};
 ghost use mathlib.Core.Path.{_≡_};
 ghost use Prim.Native.Nat.{_≤_, _<_, min};
 ghost use lib.ListN.{length};
-ghost use Rattle.rules.specs.House.{minSize, maxPayload};
+ghost use Rattle.rules.specs.House.{maxPayload};
 ghost use Rattle.rules.specs.Picture.{legalSize};
-ghost use Rattle.rules.specs.Telegram.{countOf, count, cut};
-ghost use Rattle.segmentation.specs.Answers.{countNumberOf, countValueOf, cutNumberOf, cutLengthOf, countAnswer, Cuts};
+ghost use Rattle.rules.specs.Telegram.{cut};
+ghost use Rattle.segmentation.specs.Answers.{cutNumberOf, cutLengthOf, Cuts};
 ghost use Rattle.segmentation.specs.Parts.{partId};
 use telegram::head;
 use telegram::head::COUNTER;
@@ -21,38 +21,10 @@ use telegram::limits::NO_SUCH_TELEGRAM;
 use telegram::limits::PAYLOAD_TOO_LONG;
 use telegram::limits::ROOM_TOO_SHORT;
 
-// What `count` answers: the number of a refusal, or how many telegrams the message has.
-pub enum CountAnswer {
-    Refused(u8),
-    Telegrams(usize),
-}
-
 // What `cut` answers: the number of a refusal, or the length of the telegram.
 pub enum CutAnswer {
     Refused(u8),
     Length(usize),
-}
-
-impl CountAnswer {
-    // The number given back: 0 where the message is counted.
-    pub fn number(self) -> u8
-        ensures { λ r. ⌜ r ≡ countNumberOf self ⌝ }
-    {
-        match self {
-            CountAnswer::Refused(number) => number,
-            CountAnswer::Telegrams(_) => 0,
-        }
-    }
-
-    // How many telegrams: 0 beside a refusal.
-    pub fn telegrams(self) -> usize
-        ensures { λ r. ⌜ r ≡ countValueOf self ⌝ }
-    {
-        match self {
-            CountAnswer::Refused(_) => 0,
-            CountAnswer::Telegrams(telegrams) => telegrams,
-        }
-    }
 }
 
 impl CutAnswer {
@@ -75,31 +47,6 @@ impl CutAnswer {
             CutAnswer::Length(length) => length,
         }
     }
-}
-
-// How many telegrams a message of n bytes has.
-pub fn count_of(l: usize, n: usize) -> usize
-    requires { ⌜ (minSize ≤ l) × (n ≤ maxPayload) ⌝ }
-    ensures { λ r. ⌜ r ≡ countOf l n ⌝ }
-{
-    if n <= l {
-        return 1;
-    }
-    (n + (l - 2)) / (l - 1)
-}
-
-// How many telegrams a message has, or 10 or 11.
-pub fn count(l: usize, payload: &[u8]) -> CountAnswer
-    ensures { λ r. ⌜ r ≡ countAnswer (count l (now (payload .entry))) ⌝ }
-{
-    if limits::illegal(l) {
-        return CountAnswer::Refused(ILLEGAL_SIZE);
-    }
-    let n = payload.len();
-    if limits::too_long(n) {
-        return CountAnswer::Refused(PAYLOAD_TOO_LONG);
-    }
-    CountAnswer::Telegrams(count_of(l, n))
 }
 
 // The only telegram of a message up to L, or 12 or 13.

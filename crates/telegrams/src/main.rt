@@ -113,7 +113,7 @@ fn fill(desk: Desk, text: &mut [u8; SPACE], payload: &mut [u8], n: usize, seed: 
 
 // The count of a payload's telegrams, or the refusal.
 fn counted(output: Output, text: &mut [u8; SPACE], payload: &[u8], l: usize) -> Output {
-    let answer = segmentation::count(l, payload);
+    let answer = counting::count(l, payload);
     let number = answer.number();
     if number != 0 {
         return remarks::refusal(output, text, number);
@@ -205,7 +205,7 @@ fn cut_all(
     let values = [l, high(msg_id), low(msg_id)];
     let asked = output.form(text, b"cutall %d %w%w\n", &values);
     let next = counted(asked, text, payload, l);
-    let answer = segmentation::count(l, payload);
+    let answer = counting::count(l, payload);
     let telegrams = answer.telegrams();
     each(next, text, payload, l, msg_id, telegrams, room)
 }

@@ -1,11 +1,13 @@
 // Segmentation: each telegram of a message by its number.
 ghost use mathlib.Core.Bool.{true};
 ghost use mathlib.Core.Path.{_≡_};
-ghost use Prim.Native.Nat.{_≤_, _<_, min};
-ghost use lib.ListN.{length};
+ghost use mathlib.Core.List.{_∷_};
+ghost use Prim.Native.Nat.{_+_, _-_, _≤_, _<_, min};
+ghost use lib.ListN.{length, take, drop};
+ghost use lib.Seq.{sets};
 ghost use Rattle.rules.specs.House.{maxPayload};
 ghost use Rattle.rules.specs.Picture.{legalSize};
-ghost use Rattle.rules.specs.Telegram.{cut};
+ghost use Rattle.rules.specs.Telegram.{telegram, cut};
 ghost use Rattle.segmentation.specs.Answers.{cutNumberOf, cutLengthOf, Cuts};
 ghost use Rattle.segmentation.specs.Parts.{partId};
 use telegram::head;
@@ -89,6 +91,24 @@ fn part_id(before: usize, left: usize, most: usize) -> u32
     TEL_ID_NEXT
 }
 
+// Writes one of several telegrams: its head, its counter byte, and the bytes of the payload from `from` up to `to`.
+fn write_part(
+    msg_id: u32,
+    tel_id: u32,
+    counter: u8,
+    payload: &[u8],
+    from: usize,
+    to: usize,
+    buffer: &mut [u8],
+)
+    requires { ⌜ («tel_id» < 16) × (from ≤ to) × (to ≤ length (now payload)) × (1 + (to - from) < 4096) × (7 + (to - from) ≤ length (now buffer)) ⌝ }
+    ensures { λ _. ⌜ now (buffer .exit) ≡ sets (now (buffer .entry)) 0 (telegram «msg_id» «tel_id» (counter ∷ take (to - from) (drop from (now (payload .entry))))) ⌝ }
+{
+    head::write_head(buffer, msg_id, tel_id, (1 + (to - from)) as u32);
+    buffer[COUNTER] = counter;
+    head::store(buffer, COUNTER + 1, &payload[from..to]);
+}
+
 // One of several telegrams, or 12 or 13.
 fn cut_part(l: usize, msg_id: u32, payload: &[u8], number: usize, buffer: &mut [u8]) -> CutAnswer
     requires { ⌜ (legalSize l ≡ true) × (l < length (now payload)) × (length (now payload) ≤ maxPayload) ⌝ }
@@ -113,14 +133,9 @@ fn cut_part(l: usize, msg_id: u32, payload: &[u8], number: usize, buffer: &mut [
     if buffer.len() < COUNTER + 1 + size {
         return CutAnswer::Refused(ROOM_TOO_SHORT);
     }
-    head::write_head(
-        buffer,
-        msg_id,
-        part_id(before, left, most),
-        (1 + size) as u32,
-    );
-    buffer[COUNTER] = octets::low(before as u32);
-    head::store(buffer, COUNTER + 1, &payload[from..from + size]);
+    let tel_id = part_id(before, left, most);
+    let counter = octets::low(before as u32);
+    write_part(msg_id, tel_id, counter, payload, from, from + size, buffer);
     CutAnswer::Length(COUNTER + 1 + size)
 }
 

@@ -11,10 +11,10 @@ use command::MAX_TELEGRAM;
 use input::CHUNK;
 use input::Input;
 use input::MAX_LINE;
+use joining::JoinAnswer;
+use joining::Reassembly;
 use output::Output;
 use output::SPACE;
-use reassembly::JoinAnswer;
-use reassembly::Reassembly;
 use remarks::LineKind;
 use script::numbers::smaller;
 
@@ -249,7 +249,7 @@ fn join(desk: Desk, text: &mut [u8; SPACE], buffer: &mut [u8], l: usize, bytes: 
     let output = desk.output;
     let told = join_echo(output, text, l, buffer.len(), bytes);
     let joining = desk.joining;
-    let joined = joining.join(l, buffer, bytes);
+    let joined = reassembly::join(joining, l, buffer, bytes);
     let answer = joined.answer;
     let next = joined.state;
     match answer {

@@ -7,7 +7,7 @@ use Rattle.rules.specs.Telegram as rules
 use Rattle.counting.specs.Answers.{countNumberOf, countValueOf, countAnswer}
 use Rattle.segmentation.specs.declared.CutAnswer.{CutAnswer}
 use Rattle.segmentation.specs.Answers.{cutNumberOf, cutLengthOf, cutAnswer, Cuts}
-use Rattle.reassembly.specs.Answers.{joinNumberOf, joinMsgIdOf, joinLengthOf, joinAnswer}
+use Rattle.joining.specs.Answers.{joinNumberOf, joinMsgIdOf, joinLengthOf, joinAnswer}
 
 pub record Promises : Type 0 where
   -- the numbers and values of each answer are the rules'

@@ -6,7 +6,7 @@ ghost use Rattle.node.specs.View.{rowOf};
 ghost use Rattle.entries.specs.Tests.{keepsAtLimit};
 use node::address::LogicalNodeAddress;
 use node::entry::NodeEntry;
-use node::tests::either;
+use pairs::tests::either;
 
 // An entry bars the address; an entry keeps it; one that keeps it reaches the limit if it is counted once more.
 pub struct Claims {

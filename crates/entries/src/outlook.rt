@@ -10,7 +10,7 @@ ghost use Rattle.node.specs.View.{rowOf, rowsOf};
 ghost use Rattle.entries.specs.Tests.{isShort};
 use node::entry::MAX_SILENCES;
 use node::entry::NodeEntry;
-use node::tests::either;
+use pairs::tests::either;
 
 // A question is open; a node is SILENT; a SILENT node counts fewer silences than the most.
 pub struct Outlook {

@@ -4,7 +4,7 @@ ghost use mathlib.Core.List.{map};
 ghost use Rattle.rules.specs.Picture.{holds};
 ghost use Rattle.pairs.specs.View.{pairsOf};
 ghost use Rattle.judging.specs.Marks.{orEach};
-use node::tests::either;
+use pairs::tests::either;
 use pairs::Pairs;
 
 // Marks each announced pair that is kept here.

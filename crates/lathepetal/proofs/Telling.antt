@@ -7,14 +7,15 @@ use Rattle.rules.specs.Picture.{legalSize, freshNumber}
 use Rattle.rules.specs.Telegram as rules
 use Rattle.registry.specs.declared.image.MakeAnswer.the-variants as makes
 use Rattle.registry.specs.View.{makeNumberOf, makeAnswer}
-use Rattle.reassembly.specs.declared.Reassembly.{Reassembly}
-use Rattle.reassembly.specs.declared.Joined.{Joined}
-use Rattle.segmentation.specs.declared.CountAnswer.{CountAnswer}
+use Rattle.joining.specs.declared.Reassembly.{Reassembly}
+use Rattle.joining.specs.declared.Joined.{Joined}
+use Rattle.counting.specs.declared.CountAnswer.{CountAnswer}
 use Rattle.segmentation.specs.declared.CutAnswer.{CutAnswer}
 use Rattle.segmentation.specs.Answers as segmentation
-use Rattle.reassembly.specs.Answers as reassembly
-use Rattle.segmentation.specs.Answers.{countNumberOf, countValueOf, countAnswer, cutNumberOf, cutLengthOf}
-use Rattle.reassembly.specs.Answers.{joinNumberOf, joinMsgIdOf, joinLengthOf, joinAnswer}
+use Rattle.joining.specs.Answers as joining
+use Rattle.counting.specs.Answers.{countNumberOf, countValueOf, countAnswer}
+use Rattle.segmentation.specs.Answers.{cutNumberOf, cutLengthOf}
+use Rattle.joining.specs.Answers.{joinNumberOf, joinMsgIdOf, joinLengthOf, joinAnswer}
 use Rattle.transport.proofs.Promises.{promises}
 use Rattle.lathepetal.specs.Numbers.{Cuts, Joins, completeOf, complete}
 
@@ -52,7 +53,7 @@ complete-told rules.stillOpen = refl
 complete-told (rules.complete m n) = refl
 
 pub joins : {came : Reassembly} {j : rules.Joined} {after : List ℕ} {r : Joined} {number done message long : ℕ}
-    → reassembly.Joins came j r after → number ≡ joinNumberOf (r .answer) → done ≡ completeOf (r .answer)
+    → joining.Joins came j r after → number ≡ joinNumberOf (r .answer) → done ≡ completeOf (r .answer)
     → message ≡ joinMsgIdOf (r .answer) → long ≡ joinLengthOf (r .answer)
     → Joins came j (record { number = number; complete = done; «msg_id» = message; length = long; state = r .state }) after
 joins {j = j} h n d m l =

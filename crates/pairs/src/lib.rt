@@ -1,4 +1,6 @@
 // Pairs of block and number (FBlockID, InstID), as many as a node keeps or announces.
+pub mod tests; // tests.rt: tests put together
+
 ghost use mathlib.Core.Path.{_≡_};
 ghost use mathlib.Core.Bool.{cond, not};
 ghost use mathlib.Core.List.{[]};

@@ -1,2 +1,2 @@
 -- Laws that several functions' proofs use.
-pub mod Joining
+pub mod Taking

@@ -157,14 +157,19 @@ pub stored-single : (m : ℕ) (payload b b₁ b₂ : List ℕ) → b₁ ≡ sets
 unfolding telegram headBytes four two
 stored-single m payload b b₁ b₂ e f = f ∙ ap (λ (x : List ℕ). sets x 6 payload) e
 
-pub stored-part : (m size : ℕ) {id id₁ counter counter₁ : ℕ} {part part₁ : List ℕ} (b b₁ b₂ : List ℕ) → id₁ ≡ id → counter₁ ≡ counter → part₁ ≡ part → length part ≡ size
-    → b₁ ≡ sets b 0 (four m ++ headBytes id₁ (1 + size)) → b₂ ≡ sets (set b₁ 6 counter₁) 7 part₁ → b₂ ≡ sets b 0 (telegram m id (counter ∷ part))
+pub stored-part : (m size id counter : ℕ) (part b b₁ b₂ : List ℕ) → length part ≡ size
+    → b₁ ≡ sets b 0 (four m ++ headBytes id (1 + size)) → b₂ ≡ sets (set b₁ 6 counter) 7 part → b₂ ≡ sets b 0 (telegram m id (counter ∷ part))
 unfolding telegram headBytes four two
-stored-part m size {id} {id₁} {counter} {counter₁} {part} {part₁} b b₁ b₂ i c p n e f =
+stored-part m size id counter part b b₁ b₂ n e f =
     let d : 1 + size ≡ length (counter ∷ part) = omega arith in
     f
-    ∙ ap (λ (x : List ℕ). sets (set x 6 counter₁) 7 part₁) e
-    ∙ (λ j. sets (set (sets b 0 (four m ++ headBytes (i j) (d j))) 6 (c j)) 7 (p j))
+    ∙ ap (λ (x : List ℕ). sets (set x 6 counter) 7 part) e
+    ∙ (λ j. sets (set (sets b 0 (four m ++ headBytes id (d j))) 6 counter) 7 part)
+
+-- the bytes of a part stand in the payload, and with the counter byte they are no more than a TelLen tells
+pub part-inside : (l n from size room : ℕ) → legalSize l ≡ true → from < n → size ≡ min (l - 1) (n - from) → 7 + size ≤ room
+    → (from ≤ from + size) × (from + size ≤ n) × (1 + (from + size - from) < 4096) × (7 + (from + size - from) ≤ room)
+part-inside l n from size room legal f s g = omega (arith, size-range l legal)
 
 -- the answers for a payload above L
 module _ (l m : ℕ) (payload : List ℕ) (legal : legalSize l ≡ true) (h : l < length payload) (short : length payload ≤ maxPayload) (k room : ℕ) where
@@ -201,15 +206,14 @@ module _ (l m : ℕ) (payload : List ℕ) (legal : legalSize l ≡ true) (h : l 
       pub part-13 : room < 7 + size → cut l m payload k room ≡ uncut 13
       part-13 g = at-13 l m payload legal short k room this (omega (arith, part-long))
 
-      pub part-cuts : {id counter : ℕ} {part : List ℕ} (b b₁ b₂ : List ℕ) → 7 + size ≤ room
+      pub part-cuts : {id counter : ℕ} {part : List ℕ} (b after : List ℕ) → 7 + size ≤ room
           → id ≡ partId (k - 1) (length payload - (k - 1) * (l - 1)) (l - 1) → counter ≡ (k - 1) % 256 → part ≡ take size (drop ((k - 1) * (l - 1)) payload)
-          → b₁ ≡ sets b 0 (four m ++ headBytes id (1 + size)) → b₂ ≡ sets (set b₁ 6 counter) 7 part
-          → Cuts (cut l m payload k room) b (cuts.Length (7 + size)) b₂
-      part-cuts b b₁ b₂ g i c p e₁ e₂ =
-          written b _ b₂ (7 + size)
+          → after ≡ sets b 0 (telegram m id (counter ∷ part)) → Cuts (cut l m payload k room) b (cuts.Length (7 + size)) after
+      part-cuts b after g i c p e =
+          written b _ after (7 + size)
           (cuts-are l m payload legal short .cuts k room (pos-of-ne-zero some) (within l (length payload) k (k - 1) low h behind f) (omega (arith, part-long)) ∙ ap cutTo part-bytes)
           (sym (sym (ap length part-bytes) ∙ part-long))
-          (stored-part m size b b₁ b₂ i c p part-size e₁ e₂)
+          (e ∙ (λ j. sets b 0 (telegram m (i j) (c j ∷ p j))))
 
 -- every message has a telegram
 pub at-least-one : (l n : ℕ) → legalSize l ≡ true → 1 ≤ countOf l n

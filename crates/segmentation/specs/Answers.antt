@@ -1,29 +1,13 @@
--- What counting and cutting answer: their numbers and values, and what each answer of the rules is in code.
+-- What cutting answers: its numbers and values, and what each answer of the rules is in code.
 use Prim.Native.Nat.{ℕ}
 use mathlib.Core.Path.{_≡_}
 use mathlib.Core.List.{List}
 use lib.ListN.{length}
 use lib.Seq.{sets}
 use Rattle.rules.specs.Telegram as rules
-use Rattle.segmentation.specs.declared.CountAnswer.{CountAnswer}
-use Rattle.segmentation.specs.declared.CountAnswer.the-variants as counts
 use Rattle.segmentation.specs.declared.CutAnswer.{CutAnswer}
 use Rattle.segmentation.specs.declared.CutAnswer.the-variants as cuts
 
--- how many telegrams
-abbrev pub countNumberOf : CountAnswer → ℕ
-countNumberOf (counts.Refused n) = n
-countNumberOf (counts.Telegrams k) = 0
-
-abbrev pub countValueOf : CountAnswer → ℕ
-countValueOf (counts.Refused n) = 0
-countValueOf (counts.Telegrams k) = k
-
-abbrev pub countAnswer : rules.Count → CountAnswer
-countAnswer (rules.uncounted n) = counts.Refused n
-countAnswer (rules.countIs k) = counts.Telegrams k
-
--- one telegram
 abbrev pub cutNumberOf : CutAnswer → ℕ
 cutNumberOf (cuts.Refused n) = n
 cutNumberOf (cuts.Length n) = 0

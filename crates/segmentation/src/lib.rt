@@ -1,12 +1,14 @@
-// Segmentation: how many telegrams a message has, and each of them by its number.
+// Segmentation: each telegram of a message by its number.
 ghost use mathlib.Core.Bool.{true};
 ghost use mathlib.Core.Path.{_≡_};
-ghost use Prim.Native.Nat.{_≤_, _<_, min};
-ghost use lib.ListN.{length};
-ghost use Rattle.rules.specs.House.{minSize, maxPayload};
+ghost use mathlib.Core.List.{_∷_};
+ghost use Prim.Native.Nat.{_+_, _-_, _≤_, _<_, min};
+ghost use lib.ListN.{length, take, drop};
+ghost use lib.Seq.{sets};
+ghost use Rattle.rules.specs.House.{maxPayload};
 ghost use Rattle.rules.specs.Picture.{legalSize};
-ghost use Rattle.rules.specs.Telegram.{countOf, count, cut};
-ghost use Rattle.segmentation.specs.Answers.{countNumberOf, countValueOf, cutNumberOf, cutLengthOf, countAnswer, Cuts};
+ghost use Rattle.rules.specs.Telegram.{telegram, cut};
+ghost use Rattle.segmentation.specs.Answers.{cutNumberOf, cutLengthOf, Cuts};
 ghost use Rattle.segmentation.specs.Parts.{partId};
 use telegram::head;
 use telegram::head::COUNTER;
@@ -21,38 +23,10 @@ use telegram::limits::NO_SUCH_TELEGRAM;
 use telegram::limits::PAYLOAD_TOO_LONG;
 use telegram::limits::ROOM_TOO_SHORT;
 
-// What `count` answers: the number of a refusal, or how many telegrams the message has.
-pub enum CountAnswer {
-    Refused(u8),
-    Telegrams(usize),
-}
-
 // What `cut` answers: the number of a refusal, or the length of the telegram.
 pub enum CutAnswer {
     Refused(u8),
     Length(usize),
-}
-
-impl CountAnswer {
-    // The number given back: 0 where the message is counted.
-    pub fn number(self) -> u8
-        ensures { λ r. ⌜ r ≡ countNumberOf self ⌝ }
-    {
-        match self {
-            CountAnswer::Refused(number) => number,
-            CountAnswer::Telegrams(_) => 0,
-        }
-    }
-
-    // How many telegrams: 0 beside a refusal.
-    pub fn telegrams(self) -> usize
-        ensures { λ r. ⌜ r ≡ countValueOf self ⌝ }
-    {
-        match self {
-            CountAnswer::Refused(_) => 0,
-            CountAnswer::Telegrams(telegrams) => telegrams,
-        }
-    }
 }
 
 impl CutAnswer {
@@ -75,31 +49,6 @@ impl CutAnswer {
             CutAnswer::Length(length) => length,
         }
     }
-}
-
-// How many telegrams a message of n bytes has.
-pub fn count_of(l: usize, n: usize) -> usize
-    requires { ⌜ (minSize ≤ l) × (n ≤ maxPayload) ⌝ }
-    ensures { λ r. ⌜ r ≡ countOf l n ⌝ }
-{
-    if n <= l {
-        return 1;
-    }
-    (n + (l - 2)) / (l - 1)
-}
-
-// How many telegrams a message has, or 10 or 11.
-pub fn count(l: usize, payload: &[u8]) -> CountAnswer
-    ensures { λ r. ⌜ r ≡ countAnswer (count l (now (payload .entry))) ⌝ }
-{
-    if limits::illegal(l) {
-        return CountAnswer::Refused(ILLEGAL_SIZE);
-    }
-    let n = payload.len();
-    if limits::too_long(n) {
-        return CountAnswer::Refused(PAYLOAD_TOO_LONG);
-    }
-    CountAnswer::Telegrams(count_of(l, n))
 }
 
 // The only telegram of a message up to L, or 12 or 13.
@@ -142,6 +91,24 @@ fn part_id(before: usize, left: usize, most: usize) -> u32
     TEL_ID_NEXT
 }
 
+// Writes one of several telegrams: its head, its counter byte, and the bytes of the payload from `from` up to `to`.
+fn write_part(
+    msg_id: u32,
+    tel_id: u32,
+    counter: u8,
+    payload: &[u8],
+    from: usize,
+    to: usize,
+    buffer: &mut [u8],
+)
+    requires { ⌜ («tel_id» < 16) × (from ≤ to) × (to ≤ length (now payload)) × (1 + (to - from) < 4096) × (7 + (to - from) ≤ length (now buffer)) ⌝ }
+    ensures { λ _. ⌜ now (buffer .exit) ≡ sets (now (buffer .entry)) 0 (telegram «msg_id» «tel_id» (counter ∷ take (to - from) (drop from (now (payload .entry))))) ⌝ }
+{
+    head::write_head(buffer, msg_id, tel_id, (1 + (to - from)) as u32);
+    buffer[COUNTER] = counter;
+    head::store(buffer, COUNTER + 1, &payload[from..to]);
+}
+
 // One of several telegrams, or 12 or 13.
 fn cut_part(l: usize, msg_id: u32, payload: &[u8], number: usize, buffer: &mut [u8]) -> CutAnswer
     requires { ⌜ (legalSize l ≡ true) × (l < length (now payload)) × (length (now payload) ≤ maxPayload) ⌝ }
@@ -166,14 +133,9 @@ fn cut_part(l: usize, msg_id: u32, payload: &[u8], number: usize, buffer: &mut [
     if buffer.len() < COUNTER + 1 + size {
         return CutAnswer::Refused(ROOM_TOO_SHORT);
     }
-    head::write_head(
-        buffer,
-        msg_id,
-        part_id(before, left, most),
-        (1 + size) as u32,
-    );
-    buffer[COUNTER] = octets::low(before as u32);
-    head::store(buffer, COUNTER + 1, &payload[from..from + size]);
+    let tel_id = part_id(before, left, most);
+    let counter = octets::low(before as u32);
+    write_part(msg_id, tel_id, counter, payload, from, from + size, buffer);
     CutAnswer::Length(COUNTER + 1 + size)
 }
 

@@ -11,10 +11,10 @@ use command::MAX_TELEGRAM;
 use input::CHUNK;
 use input::Input;
 use input::MAX_LINE;
+use joining::JoinAnswer;
+use joining::Reassembly;
 use output::Output;
 use output::SPACE;
-use reassembly::JoinAnswer;
-use reassembly::Reassembly;
 use remarks::LineKind;
 use script::numbers::smaller;
 
@@ -113,7 +113,7 @@ fn fill(desk: Desk, text: &mut [u8; SPACE], payload: &mut [u8], n: usize, seed: 
 
 // The count of a payload's telegrams, or the refusal.
 fn counted(output: Output, text: &mut [u8; SPACE], payload: &[u8], l: usize) -> Output {
-    let answer = segmentation::count(l, payload);
+    let answer = counting::count(l, payload);
     let number = answer.number();
     if number != 0 {
         return remarks::refusal(output, text, number);
@@ -205,7 +205,7 @@ fn cut_all(
     let values = [l, high(msg_id), low(msg_id)];
     let asked = output.form(text, b"cutall %d %w%w\n", &values);
     let next = counted(asked, text, payload, l);
-    let answer = segmentation::count(l, payload);
+    let answer = counting::count(l, payload);
     let telegrams = answer.telegrams();
     each(next, text, payload, l, msg_id, telegrams, room)
 }
@@ -249,7 +249,7 @@ fn join(desk: Desk, text: &mut [u8; SPACE], buffer: &mut [u8], l: usize, bytes: 
     let output = desk.output;
     let told = join_echo(output, text, l, buffer.len(), bytes);
     let joining = desk.joining;
-    let joined = joining.join(l, buffer, bytes);
+    let joined = reassembly::join(joining, l, buffer, bytes);
     let answer = joined.answer;
     let next = joined.state;
     match answer {

@@ -8,9 +8,10 @@ use lib.Seq.{sets}
 use Rattle.laws.specs.Buffers.{sets-behind}
 use Rattle.rules.specs.Telegram as rules
 use Rattle.rules.specs.Telegram.{countNumber, countValue, cutNumber, cutLength, cutBytes, joinNumber, joinMsgId, joinLength}
+use Rattle.counting.specs.Answers.{countNumberOf, countValueOf, countAnswer}
 use Rattle.segmentation.specs.declared.CutAnswer.{CutAnswer}
-use Rattle.segmentation.specs.Answers.{countNumberOf, countValueOf, countAnswer, cutNumberOf, cutLengthOf, cutAnswer, Cuts}
-use Rattle.reassembly.specs.Answers.{joinNumberOf, joinMsgIdOf, joinLengthOf, joinAnswer}
+use Rattle.segmentation.specs.Answers.{cutNumberOf, cutLengthOf, cutAnswer, Cuts}
+use Rattle.joining.specs.Answers.{joinNumberOf, joinMsgIdOf, joinLengthOf, joinAnswer}
 use Rattle.transport.specs.Promises.{Promises}
 
 counted : (c : rules.Count) → (countNumberOf (countAnswer c) ≡ countNumber c) × (countValueOf (countAnswer c) ≡ countValue c)

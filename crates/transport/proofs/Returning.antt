@@ -12,10 +12,10 @@ use Rattle.rules.specs.Picture.{legalSize}
 use Rattle.rules.specs.Telegram.{countOf, telegramOf, telegrams, join, joinAll, idle, stillOpen, complete}
 use Rattle.rules.proofs.RoundTrip.{roundTrip}
 use Rattle.rules.specs.Telegram as rules
-use Rattle.reassembly.specs.declared.Joined.{Joined}
-use Rattle.reassembly.specs.declared.Reassembly.{Reassembly}
-use Rattle.reassembly.specs.Answers.{joinAnswer, joiningOf, Joins}
-use Rattle.reassembly.specs.declared.JoinAnswer.the-variants as joins
+use Rattle.joining.specs.declared.Joined.{Joined}
+use Rattle.joining.specs.declared.Reassembly.{Reassembly}
+use Rattle.joining.specs.Answers.{joinAnswer, joiningOf, Joins}
+use Rattle.joining.specs.declared.JoinAnswer.the-variants as joins
 
 module _ (l m : ℕ) (payload lent : List ℕ) where
   -- the telegrams k to the count, of which `more` stand behind the first

@@ -6,8 +6,8 @@ use lib.Dec.{ltb}
 use lib.ListN.{length, drop}
 use Rattle.rules.specs.House.{maxPayload}
 use Rattle.rules.specs.Picture.{legalSize}
-use Rattle.reassembly.specs.declared.JoinAnswer.{JoinAnswer}
-use Rattle.reassembly.specs.declared.JoinAnswer.the-variants as joins
+use Rattle.joining.specs.declared.JoinAnswer.{JoinAnswer}
+use Rattle.joining.specs.declared.JoinAnswer.the-variants as joins
 
 pub record Back : Type 0 where
   pub answer : JoinAnswer

@@ -4,9 +4,10 @@ use mathlib.Core.Path.{_≡_}
 use mathlib.Core.List.{List}
 use lib.ListN.{drop}
 use Rattle.rules.specs.Telegram as rules
+use Rattle.counting.specs.Answers.{countNumberOf, countValueOf, countAnswer}
 use Rattle.segmentation.specs.declared.CutAnswer.{CutAnswer}
-use Rattle.segmentation.specs.Answers.{countNumberOf, countValueOf, countAnswer, cutNumberOf, cutLengthOf, cutAnswer, Cuts}
-use Rattle.reassembly.specs.Answers.{joinNumberOf, joinMsgIdOf, joinLengthOf, joinAnswer}
+use Rattle.segmentation.specs.Answers.{cutNumberOf, cutLengthOf, cutAnswer, Cuts}
+use Rattle.joining.specs.Answers.{joinNumberOf, joinMsgIdOf, joinLengthOf, joinAnswer}
 
 pub record Promises : Type 0 where
   -- the numbers and values of each answer are the rules'

@@ -6,11 +6,11 @@ ghost use lib.ListN.{length};
 ghost use Rattle.rules.specs.House.{maxPayload};
 ghost use Rattle.rules.specs.Picture.{legalSize};
 ghost use Rattle.rules.specs.Telegram.{countOf, telegramOf, join};
-ghost use Rattle.reassembly.specs.Answers.{joiningOf, Joins};
+ghost use Rattle.joining.specs.Answers.{joiningOf, Joins};
 ghost use Rattle.transport.specs.Back.{back};
-use reassembly::JoinAnswer;
-use reassembly::Joined;
-use reassembly::Reassembly;
+use joining::JoinAnswer;
+use joining::Joined;
+use joining::Reassembly;
 use telegram::head::HEAD;
 use telegram::limits;
 use telegram::limits::ILLEGAL_SIZE;
@@ -36,7 +36,7 @@ fn pass_on(
 {
     let mut telegram = [0u8; LONGEST];
     let length = segmentation::cut(l, msg_id, payload, number, &mut telegram).length();
-    state.join(l, buffer, &telegram[..length])
+    reassembly::join(state, l, buffer, &telegram[..length])
 }
 
 // Cuts a message and joins its telegrams in their order: it is complete, with its MsgID and its length, and `buffer` holds its bytes. Or 10, 11
@@ -54,7 +54,7 @@ pub fn cut_and_join(l: usize, msg_id: u32, payload: &[u8], buffer: &mut [u8]) ->
     if buffer.len() < MAX_PAYLOAD {
         return JoinAnswer::Refused(ROOM_TOO_SHORT);
     }
-    let count = segmentation::count_of(l, n);
+    let count = counting::count_of(l, n);
     let mut state = Reassembly::fresh();
     let mut number = 1;
     while number < count {

@@ -1,13 +1,13 @@
 -- `cut_part` writes one of several telegrams, or refuses 12 or 13.
 use Prim.Native.Nat.{ℕ, _+_, _-_, _*_}
-use mathlib.Core.Path.{_≡_, ap, _∙_}
+use mathlib.Core.Path.{_≡_, ap}
 use native.Mathlib.Omega.{arith}
 use native.Mathlib.Nat.{mul-le-mul}
 use borrow.Author.Needs.{needs}
-use lib.ListN.{length-take, length-drop, take, drop, length-set}
+use lib.ListN.{take, drop}
 use Rattle.rules.specs.House.{maxSize, maxPayload}
 use Rattle.rules.proofs.RoundTrip.{size-range}
-use Rattle.segmentation.proofs.Cutting.{part-none, part-many, part-12, part-13, part-cuts, refused}
+use Rattle.segmentation.proofs.Cutting.{part-none, part-many, part-12, part-13, part-inside, part-cuts, refused}
 use Rattle.segmentation.proofs.cut_part.Statement.{statement}
 use Rattle.segmentation.proofs.cut_part.Tie as tie
 
@@ -70,67 +70,40 @@ returns-4 c =
 part-id-requires : tie.Need-part-id-requires
 part-id-requires c κs = search needs
 
-add-write-head : tie.Need-add-write-head
-add-write-head c = search needs
-
-cast-write-head : tie.Need-cast-write-head
-cast-write-head c = search needs
-
-write-head-requires : tie.Need-write-head-requires
-write-head-requires c κs =
-    let start = c .before .before .before .before .before .before .before .before .before in
-    omega (arith, size-range (start .args .l) (start .pre .0))
-
 cast-low : tie.Need-cast-low
 cast-low c = search needs
 
 low-requires : tie.Need-low-requires
 low-requires c κs = search needs
 
-slice-write-buffer : tie.Need-slice-write-buffer
-slice-write-buffer c = search needs
+add-write-part : tie.Need-add-write-part
+add-write-part c = search needs
 
-add-store : tie.Need-add-store
-add-store c = search needs
-
-add-store-2 : tie.Need-add-store-2
-add-store-2 c = search needs
-
-sub-store : tie.Need-sub-store
-sub-store c = search needs
-
-part-store-start : tie.Need-part-store-start
-part-store-start c = search needs
-
-part-store-end : tie.Need-part-store-end
-part-store-end c = search needs
-
-store-requires : tie.Need-store-requires
-store-requires c κs =
-    let at-write-head = c .before .before .before .before .before in
-    let at-if4 = at-write-head .before .before .before in
+write-part-requires : tie.Need-write-part-requires
+write-part-requires c κs =
+    let at-part-id = c .before .before in
+    let at-if4 = at-part-id .before in
     let at-smaller = at-if4 .before in
-    simp (length-set, length-take, length-drop) (omega (arith, at-write-head .write-head .kept .0, at-smaller .smaller .ensures, at-if4 .if4 .left))
+    let at-if3 = at-smaller .before in
+    let start = at-if3 .before .before .before .before .before in
+    let p = part-inside (start .args .l) _ _ (at-smaller .smaller .result) _ (start .pre .0) (at-if3 .if3 .left) (at-smaller .smaller .ensures) (at-if4 .if4 .left) in
+    (at-part-id .part-id .ensures .1, p .0, p .1, p .2, p .3)
 
-add-t14 : tie.Need-add-t14
-add-t14 c = search needs
+add-t16 : tie.Need-add-t16
+add-t16 c = search needs
 
-add-t13 : tie.Need-add-t13
-add-t13 c = search needs
+add-t15 : tie.Need-add-t15
+add-t15 c = search needs
 
 same-length : tie.Need-same-length
-same-length c =
-    let at-store = c .before .before in
-    let at-write-head = at-store .before .before .before .before .before .before in
-    at-store .store .kept .0 ∙ simp length-set (at-write-head .write-head .kept .0)
+same-length c = search needs
 
 returns-5 : tie.Need-returns-5
 returns-5 c =
-    let at-store = c .before .before in
-    let at-low = at-store .before .before .before in
-    let at-write-head = at-low .before .before .before in
-    let at-part-id = at-write-head .before in
-    let at-if4 = at-part-id .before .before in
+    let at-write-part = c .before .before in
+    let at-low = at-write-part .before .before in
+    let at-part-id = at-low .before in
+    let at-if4 = at-part-id .before in
     let at-smaller = at-if4 .before in
     let at-if3 = at-smaller .before in
     let at-if1 = at-if3 .before .before in
@@ -139,8 +112,8 @@ returns-5 c =
     let n = at-smaller .smaller .result in
     let from = (a .number - 1) * (a .l - 1) in
     let e : from + n - from ≡ n = omega arith in
-    part-cuts (a .l) (a .msg-id) (a .payload .now) (start .pre .0) (start .pre .1) (start .pre .2) (a .number) _ (at-if1 .if1 .left) n (at-if3 .if3 .left) (at-smaller .smaller .ensures) (a .buffer .now) _ _ (at-if4 .if4 .left) (at-part-id .part-id .ensures .0) (at-low .low .ensures)
-    (ap (λ (z : ℕ). take z (drop from (a .payload .now))) e) (at-write-head .write-head .ensures) (at-store .store .ensures)
+    part-cuts (a .l) (a .msg-id) (a .payload .now) (start .pre .0) (start .pre .1) (start .pre .2) (a .number) _ (at-if1 .if1 .left) n (at-if3 .if3 .left) (at-smaller .smaller .ensures) (a .buffer .now) _ (at-if4 .if4 .left) (at-part-id .part-id .ensures .0) (at-low .low .ensures)
+    (ap (λ (z : ℕ). take z (drop from (a .payload .now))) e) (at-write-part .write-part .ensures)
 
 pub cut-part-spec : {M : Type 1} → statement M
 cut-part-spec =
@@ -158,19 +131,11 @@ cut-part-spec =
     add-if4-2
     returns-4
     part-id-requires
-    add-write-head
-    cast-write-head
-    write-head-requires
     cast-low
     low-requires
-    slice-write-buffer
-    add-store
-    add-store-2
-    sub-store
-    part-store-start
-    part-store-end
-    store-requires
-    add-t14
-    add-t13
+    add-write-part
+    write-part-requires
+    add-t16
+    add-t15
     same-length
     returns-5)

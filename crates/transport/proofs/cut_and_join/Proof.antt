@@ -5,7 +5,7 @@ use native.Mathlib.Omega.{arith}
 use borrow.Author.Needs.{needs}
 use borrow.Author.Tests.{lt-ltb, le-ltb}
 use lib.ListN.{length}
-use Rattle.reassembly.specs.Answers.{joiningOf}
+use Rattle.joining.specs.Answers.{joiningOf}
 use Rattle.transport.specs.Back.{back}
 use Rattle.telegram.proofs.Legal.{legal, range, short}
 use Rattle.segmentation.proofs.Cutting.{at-least-one}

@@ -6,8 +6,8 @@ use borrow.Author.Needs.{needs}
 use lib.ListN.{take}
 use lib.Seq.{length-take-le}
 use Rattle.rules.specs.Telegram.{join}
-use Rattle.reassembly.specs.Answers.{joiningOf}
-use Rattle.reassembly.proofs.Joining.{along}
+use Rattle.joining.specs.Answers.{joiningOf}
+use Rattle.joining.proofs.Joining.{along}
 use Rattle.transport.proofs.Passing.{inside, read-back}
 use Rattle.transport.proofs.pass_on.Statement.{statement}
 use Rattle.transport.proofs.pass_on.Tie as tie

@@ -5,10 +5,10 @@ use mathlib.Core.List.{List}
 use mathlib.Core.Bool.{cond}
 use lib.Dec.{eqb}
 use Rattle.rules.specs.Telegram as rules
-use Rattle.reassembly.specs.declared.Reassembly.{Reassembly}
-use Rattle.reassembly.specs.declared.Joined.{Joined}
-use Rattle.reassembly.specs.declared.JoinAnswer.{JoinAnswer}
-use Rattle.reassembly.specs.declared.JoinAnswer.the-variants as joins
+use Rattle.joining.specs.declared.Reassembly.{Reassembly}
+use Rattle.joining.specs.declared.Joined.{Joined}
+use Rattle.joining.specs.declared.JoinAnswer.{JoinAnswer}
+use Rattle.joining.specs.declared.JoinAnswer.the-variants as joins
 
 abbrev pub joinNumberOf : JoinAnswer → ℕ
 joinNumberOf (joins.Refused n) = n

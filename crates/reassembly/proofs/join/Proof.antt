@@ -5,9 +5,10 @@ use borrow.Author.Tests.{lt-ltb, le-ltb, lt-leb, le-leb}
 use borrow.Author.Needs.{needs}
 use Rattle.rules.specs.Telegram.{join}
 use Rattle.telegram.proofs.Legal.{legal, range}
-use Rattle.reassembly.proofs.Joining.{along, keeps, has-head, at-most, has-counter}
-use Rattle.reassembly.proofs.Reassembly.join.Statement.{statement}
-use Rattle.reassembly.proofs.Reassembly.join.Tie as tie
+use Rattle.joining.proofs.Joining.{along}
+use Rattle.reassembly.proofs.Taking.{keeps, has-head, at-most, has-counter}
+use Rattle.reassembly.proofs.join.Statement.{statement}
+use Rattle.reassembly.proofs.join.Tie as tie
 
 illegal-requires : tie.Need-illegal-requires
 illegal-requires c κs = search needs
@@ -22,7 +23,7 @@ returns c =
     let at-illegal = at-if1 .before in
     let start = at-illegal .before .before .before in
     let a = start .args in
-    keeps (a .self) (a .buffer .now) 10 refl (simp (sym (at-illegal .illegal .ensures) ∙ at-if1 .if1 .taken)) (c .refused .ensures)
+    keeps (a .state) (a .buffer .now) 10 refl (simp (sym (at-illegal .illegal .ensures) ∙ at-if1 .if1 .taken)) (c .refused .ensures)
 
 refused-requires-2 : tie.Need-refused-requires-2
 refused-requires-2 c κs = search needs
@@ -35,7 +36,7 @@ returns-2 c =
     let at-illegal = at-if1 .before in
     let start = at-illegal .before .before .before in
     let a = start .args in
-    keeps (a .self) (a .buffer .now) 13 refl (simp (legal _ (at-illegal .illegal .ensures) (at-if1 .if1 .left), lt-ltb _ _ (at-if2 .if2 .taken))) (c .refused2 .ensures)
+    keeps (a .state) (a .buffer .now) 13 refl (simp (legal _ (at-illegal .illegal .ensures) (at-if1 .if1 .left), lt-ltb _ _ (at-if2 .if2 .taken))) (c .refused2 .ensures)
 
 malformed-requires : tie.Need-malformed-requires
 malformed-requires c κs = search needs
@@ -53,7 +54,7 @@ returns-3 c =
     let at-illegal = at-if1 .before in
     let start = at-illegal .before .before .before in
     let a = start .args in
-    keeps (a .self) (a .buffer .now) 14 refl (simp (legal _ (at-illegal .illegal .ensures) (at-if1 .if1 .left), le-ltb _ _ (at-if2 .if2 .left), sym (at-malformed .malformed .ensures) ∙ at-if3 .if3 .taken)) (c .refused3 .ensures)
+    keeps (a .state) (a .buffer .now) 14 refl (simp (legal _ (at-illegal .illegal .ensures) (at-if1 .if1 .left), le-ltb _ _ (at-if2 .if2 .left), sym (at-malformed .malformed .ensures) ∙ at-if3 .if3 .taken)) (c .refused3 .ensures)
 
 tel-id-requires : tie.Need-tel-id-requires
 tel-id-requires c κs =
@@ -76,7 +77,7 @@ returns-4 c =
     let at-illegal = at-if1 .before in
     let start = at-illegal .before .before .before in
     let a = start .args in
-    keeps (a .self) (a .buffer .now) 15 refl (simp (legal _ (at-illegal .illegal .ensures) (at-if1 .if1 .left), le-ltb _ _ (at-if2 .if2 .left), sym (at-malformed .malformed .ensures) ∙ at-if3 .if3 .left, sym (at-tel-id .tel-id .ensures), le-leb _ _ (at-if4 .if4 .taken))) (c .refused4 .ensures)
+    keeps (a .state) (a .buffer .now) 15 refl (simp (legal _ (at-illegal .illegal .ensures) (at-if1 .if1 .left), le-ltb _ _ (at-if2 .if2 .left), sym (at-malformed .malformed .ensures) ∙ at-if3 .if3 .left, sym (at-tel-id .tel-id .ensures), le-leb _ _ (at-if4 .if4 .taken))) (c .refused4 .ensures)
 
 take-requires : tie.Need-take-requires
 take-requires c κs =

@@ -2,9 +2,9 @@
 use mathlib.Core.Path.{refl}
 use native.Mathlib.Omega.{arith}
 use borrow.Author.Needs.{needs}
-use Rattle.reassembly.proofs.Joining.{takes-single, takes-first, takes-part}
-use Rattle.reassembly.proofs.Reassembly.take.Statement.{statement}
-use Rattle.reassembly.proofs.Reassembly.take.Tie as tie
+use Rattle.reassembly.proofs.Taking.{takes-single, takes-first, takes-part}
+use Rattle.reassembly.proofs.take.Statement.{statement}
+use Rattle.reassembly.proofs.take.Tie as tie
 
 msg-id-requires : tie.Need-msg-id-requires
 msg-id-requires c κs = search needs
@@ -37,7 +37,7 @@ returns c =
     let at-msg-id = at-if1 .before in
     let start = at-msg-id .before .before .before in
     let a = start .args in
-    takes-single (a .tel-id) (a .self) (a .telegram .now) (a .buffer .now) (at-msg-id .msg-id .ensures) (at-if1 .if1 .taken) refl (c .fresh .ensures) (at-store .store .ensures)
+    takes-single (a .tel-id) (a .state) (a .telegram .now) (a .buffer .now) (at-msg-id .msg-id .ensures) (at-if1 .if1 .taken) refl (c .fresh .ensures) (at-store .store .ensures)
 
 shared-slice-read-counter : tie.Need-shared-slice-read-counter
 shared-slice-read-counter c =
@@ -77,7 +77,7 @@ returns-2 c =
     let at-msg-id = at-if1 .before in
     let start = at-msg-id .before .before .before in
     let a = start .args in
-    takes-first (a .tel-id) (a .self) (a .telegram .now) (a .buffer .now) (at-msg-id .msg-id .ensures) (at-if1 .if1 .left) (at-if2 .if2 .taken) (at-begin .begin .ensures)
+    takes-first (a .tel-id) (a .state) (a .telegram .now) (a .buffer .now) (at-msg-id .msg-id .ensures) (at-if1 .if1 .left) (at-if2 .if2 .taken) (at-begin .begin .ensures)
 
 go-on-requires : tie.Need-go-on-requires
 go-on-requires c κs = search needs
@@ -93,7 +93,7 @@ returns-3 c =
     let at-msg-id = at-if1 .before in
     let start = at-msg-id .before .before .before in
     let a = start .args in
-    takes-part (a .tel-id) (a .self) (a .telegram .now) (a .buffer .now) (at-msg-id .msg-id .ensures) (at-if1 .if1 .left) (at-if2 .if2 .left) (at-go-on .go-on .ensures)
+    takes-part (a .tel-id) (a .state) (a .telegram .now) (a .buffer .now) (at-msg-id .msg-id .ensures) (at-if1 .if1 .left) (at-if2 .if2 .left) (at-go-on .go-on .ensures)
 
 pub take-spec : {M : Type 1} → statement M
 take-spec =

@@ -1,8 +1,8 @@
 -- A fresh state has no open message.
 use mathlib.Core.Path.{refl}
-use Rattle.reassembly.specs.Answers.{joiningOf, stateOf}
-use Rattle.reassembly.proofs.Reassembly.fresh.Statement.{statement}
-use Rattle.reassembly.proofs.Reassembly.fresh.Tie as tie
+use Rattle.joining.specs.Answers.{joiningOf, stateOf}
+use Rattle.joining.proofs.Reassembly.fresh.Statement.{statement}
+use Rattle.joining.proofs.Reassembly.fresh.Tie as tie
 
 returns : tie.Need-returns
 unfolding joiningOf stateOf

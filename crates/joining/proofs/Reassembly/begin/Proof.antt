@@ -3,10 +3,10 @@ use mathlib.Core.Path.{refl}
 use borrow.Author.Tests.{eq-eqb, ne-eqb}
 use borrow.Author.Needs.{needs}
 use Rattle.rules.specs.Telegram.{begins}
-use Rattle.reassembly.specs.Answers.{handedBack}
-use Rattle.reassembly.proofs.Joining.{drops}
-use Rattle.reassembly.proofs.Reassembly.begin.Statement.{statement}
-use Rattle.reassembly.proofs.Reassembly.begin.Tie as tie
+use Rattle.joining.specs.Answers.{handedBack}
+use Rattle.joining.proofs.Joining.{drops}
+use Rattle.joining.proofs.Reassembly.begin.Statement.{statement}
+use Rattle.joining.proofs.Reassembly.begin.Tie as tie
 
 dropped-requires : tie.Need-dropped-requires
 dropped-requires c κs = search needs

@@ -3,8 +3,8 @@ use mathlib.Core.Path.{sym, _∙_}
 use borrow.Author.Needs.{needs}
 use Rattle.rules.specs.Telegram.{count}
 use Rattle.telegram.proofs.Legal.{legal, range, short}
-use Rattle.segmentation.proofs.count.Statement.{statement}
-use Rattle.segmentation.proofs.count.Tie as tie
+use Rattle.counting.proofs.count.Statement.{statement}
+use Rattle.counting.proofs.count.Tie as tie
 
 illegal-requires : tie.Need-illegal-requires
 illegal-requires c κs = search needs

@@ -2,8 +2,8 @@
 use borrow.Author.Tests.{lt-leb, le-leb}
 use borrow.Author.Needs.{needs}
 use Rattle.rules.specs.Telegram.{countOf}
-use Rattle.segmentation.proofs.count_of.Statement.{statement}
-use Rattle.segmentation.proofs.count_of.Tie as tie
+use Rattle.counting.proofs.count_of.Statement.{statement}
+use Rattle.counting.proofs.count_of.Tie as tie
 
 returns : tie.Need-returns
 unfolding countOf

@@ -1,8 +1,8 @@
 -- An opened state has the message that it is made of.
 use mathlib.Core.Path.{refl}
-use Rattle.reassembly.specs.Answers.{joiningOf, stateOf}
-use Rattle.reassembly.proofs.Reassembly.opened.Statement.{statement}
-use Rattle.reassembly.proofs.Reassembly.opened.Tie as tie
+use Rattle.joining.specs.Answers.{joiningOf, stateOf}
+use Rattle.joining.proofs.Reassembly.opened.Statement.{statement}
+use Rattle.joining.proofs.Reassembly.opened.Tie as tie
 
 returns : tie.Need-returns
 unfolding joiningOf stateOf

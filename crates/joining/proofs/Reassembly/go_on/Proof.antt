@@ -4,10 +4,10 @@ use borrow.Author.Tests.{lt-leb, eq-eqb, ne-eqb}
 use borrow.Author.Needs.{needs}
 use lib.Bits.{and-mask}
 use Rattle.rules.specs.Telegram.{continues}
-use Rattle.reassembly.specs.Answers.{joiningOf}
-use Rattle.reassembly.proofs.Joining.{drops, completes, stays-open}
-use Rattle.reassembly.proofs.Reassembly.go_on.Statement.{statement}
-use Rattle.reassembly.proofs.Reassembly.go_on.Tie as tie
+use Rattle.joining.specs.Answers.{joiningOf}
+use Rattle.joining.proofs.Joining.{drops, completes, stays-open}
+use Rattle.joining.proofs.Reassembly.go_on.Statement.{statement}
+use Rattle.joining.proofs.Reassembly.go_on.Tie as tie
 
 dropped-requires : tie.Need-dropped-requires
 dropped-requires c κs = search needs

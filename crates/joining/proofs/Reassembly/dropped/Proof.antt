@@ -1,9 +1,9 @@
 -- A dropped message leaves a fresh state.
 use mathlib.Core.Path.{ap, _∙_}
 use borrow.Author.Needs.{needs}
-use Rattle.reassembly.specs.Answers.{joiningOf}
-use Rattle.reassembly.proofs.Reassembly.dropped.Statement.{statement}
-use Rattle.reassembly.proofs.Reassembly.dropped.Tie as tie
+use Rattle.joining.specs.Answers.{joiningOf}
+use Rattle.joining.proofs.Reassembly.dropped.Statement.{statement}
+use Rattle.joining.proofs.Reassembly.dropped.Tie as tie
 
 fresh-requires : tie.Need-fresh-requires
 fresh-requires c κs = search needs

@@ -1,7 +1,7 @@
 -- What an announcement comes to, from the tests of the code.
 use Prim.Native.Nat.{ℕ, zero, suc, _<_, _≤_}
 use mathlib.Core.Path.{_≡_, refl, sym, _∙_, ap}
-use mathlib.Core.Bool.{Bool, true, false, cond, _&&_, _||_}
+use mathlib.Core.Bool.{Bool, true, false, cond, _&&_}
 use mathlib.Core.List.{List, [], _∷_}
 use mathlib.Core.Option.{Option}
 use native.Mathlib.Nat.{suc-ne-zero}
@@ -14,7 +14,7 @@ use Rattle.laws.specs.Bools.{clash}
 use Rattle.rules.specs.House.{maxTries}
 use Rattle.rules.specs.Picture.{Picture, Pair, Row, noRow, keptBy, hasAddress, keeps, keepsOther, bars, barsStatus, inRange, pairsIn, Seat, seatAt, others}
 use Rattle.rules.specs.Renumber.{Judged, goods, freeNumber, Renumbering, finished, offer, renumberFrom, renumber, placeOf, triesOf}
-use Rattle.rules.specs.Step.{Response, change, changeRows, setOrder, firstThatApplies, verdict, answer, ignored, counted, atLimit, conflict, nobody, judgedFor, renumberingFor, listedRow, statusAfter, keepAnswer}
+use Rattle.rules.specs.Step.{change, changeRows, setOrder, firstThatApplies, verdict, answer, ignored, counted, atLimit, conflict, nobody, judgedFor, renumberingFor, listedRow, statusAfter, keepAnswer}
 use Rattle.node.specs.View.{rowOf}
 use Rattle.entries.specs.Tests.{keepsAtLimit, countsFor}
 use Rattle.judging.specs.Marks.{judgeMarked, judgedOf}

@@ -6,7 +6,7 @@ use mathlib.Core.List.{List, [], _∷_, _++_, map}
 use native.Mathlib.Nat.{not-suc-le-zero, le-of-suc-le-suc}
 use lib.ListN.{length, getD, set, take, drop}
 use Rattle.laws.specs.Lists.{any, collect}
-use Rattle.rules.specs.Picture.{Pair, Row, noRow, keptBy, pairsOf, pairsIn, Seat, seatAt, others, put}
+use Rattle.rules.specs.Picture.{Row, noRow, keptBy, pairsOf, pairsIn, Seat, seatAt, others, put}
 use Rattle.rules.specs.Step.{onCounted}
 use Rattle.node.specs.declared.entry.NodeEntry.{NodeEntry}
 use Rattle.node.specs.View.{rowOf, rowsOf}

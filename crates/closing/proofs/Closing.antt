@@ -5,7 +5,7 @@ use mathlib.Core.Bool.{Bool, cond, not, _&&_, _||_}
 use mathlib.Core.List.{List, [], _∷_, _++_}
 use Rattle.laws.specs.Buffers.{Wrote, wrote-along}
 use Rattle.rules.specs.Picture.{State, Ok, isNotOk, isOk}
-use Rattle.rules.specs.Order.{Order, OK, WAIT-SHORT, WAIT-LONG, encodeAll}
+use Rattle.rules.specs.Order.{OK, WAIT-SHORT, WAIT-LONG, encodeAll}
 use Rattle.orders.proofs.Writing.{wrote-orders}
 use Rattle.closing.specs.Closing.{isOver, stateAfter, startsDelay, closingOrders}
 

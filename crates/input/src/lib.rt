@@ -1,7 +1,7 @@
 // Standard input by lines. The contracts give every result and every lent buffer. They cannot speak of what a call of the system
 // reads, so one thing is open: the bytes that a read delivers.
 ghost use mathlib.Core.Path.{_≡_};
-ghost use Prim.Native.Nat.{_+_, _≤_, min};
+ghost use Prim.Native.Nat.{_+_, min};
 ghost use Rattle.input.specs.Lines.{maxLine, unread, keptAt, Filled, NextLine};
 use libc::STDIN_FILENO;
 use script::digits;

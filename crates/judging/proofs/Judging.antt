@@ -9,7 +9,7 @@ use native.Mathlib.Omega.{arith}
 use lib.ListN.{length, getD, set, take, drop, replicate, drop-of-length-le}
 use lib.Dec.{leb}
 use lib.Seq.{take-all, drop-cons}
-use Rattle.laws.specs.Lists.{any, collect}
+use Rattle.laws.specs.Lists.{any}
 use Rattle.rules.specs.House.{minNumber, maxNumber}
 use Rattle.rules.specs.Picture.{Pair, samePair, holds}
 use Rattle.rules.specs.Renumber.{Judged, isGood, judge, goods}

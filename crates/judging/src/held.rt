@@ -4,8 +4,8 @@ ghost use mathlib.Core.List.{map};
 ghost use Rattle.rules.specs.Picture.{holds};
 ghost use Rattle.pairs.specs.View.{pairsOf};
 ghost use Rattle.judging.specs.Marks.{orEach};
-use pairs::tests::either;
 use pairs::Pairs;
+use pairs::tests::either;
 
 // Marks each announced pair that is kept here.
 pub fn mark_held(marks: &mut [bool; 16], kept: Pairs, announced: Pairs)

@@ -1,9 +1,8 @@
 -- What a flat listing stands for.
-use Prim.Native.Nat.{ℕ, zero, suc}
-use mathlib.Core.List.{List, [], _∷_, map}
+use Prim.Native.Nat.{ℕ}
+use mathlib.Core.List.{List, map}
 use lib.ListN.{length, replicate, getD}
 use lib.Seq.{sets}
-use Rattle.laws.specs.Views.{firsts}
 use Rattle.laws.specs.Lists.{upFrom}
 use Rattle.rules.specs.Listing.{Entry, entry}
 use Rattle.pairs.specs.View.{pairOf}

@@ -1,6 +1,6 @@
 // The registry's entry of a node, and what happens to one entry.
 ghost use mathlib.Core.Path.{_≡_};
-ghost use mathlib.Core.List.{List, []};
+ghost use mathlib.Core.List.{[]};
 ghost use Prim.Native.Nat.{min};
 ghost use Rattle.rules.specs.Picture.{Row, WAITING, isOpen, isSilent, isIgnored, keeps, keepsOther, bars, pairsIn, newRow, noRow};
 ghost use Rattle.rules.specs.Renumber.{placeOf, triesOf};

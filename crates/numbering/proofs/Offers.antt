@@ -2,14 +2,13 @@
 use Prim.Native.Nat.{ℕ, suc, _+_, _<_}
 use mathlib.Core.Path.{_≡_, refl, sym, _∙_, ap}
 use mathlib.Core.Bool.{Bool, true, false, cond}
-use mathlib.Core.List.{List, [], _∷_}
+use mathlib.Core.List.{List, _∷_}
 use mathlib.Core.Option.{Option, none, some}
 use native.Mathlib.Numerals.{add-one}
 use borrow.Author.Tests.{lt-ltb}
 use lib.Dec.{ltb}
 use Rattle.laws.specs.Bools.{clash}
 use Rattle.rules.specs.House.{maxTries}
-use Rattle.rules.specs.Picture.{Pair}
 use Rattle.rules.specs.Renumber.{Judged, Renumbering, finished, renumbers, offer, renumberFrom}
 use Rattle.numbering.specs.Marks.{attemptOf, isOffer}
 

@@ -1,6 +1,6 @@
 -- A conflict of addresses, by the counts of those that it is counted for.
 use Prim.Native.Nat.{ℕ, _-_, _<_, _≤_}
-use mathlib.Core.Path.{_≡_, refl, sym, _∙_, ap}
+use mathlib.Core.Path.{_≡_, sym, _∙_, ap}
 use mathlib.Core.Bool.{Bool, true, false, cond, _||_}
 use mathlib.Core.List.{[], _∷_, map}
 use borrow.Author.Tests.{le-leb, lt-leb}

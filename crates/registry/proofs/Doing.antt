@@ -1,23 +1,23 @@
 -- What a function does with a record, from what it writes and the picture that it leaves.
-use Prim.Native.Nat.{ℕ, suc, _+_, _≤_}
+use Prim.Native.Nat.{ℕ, _+_, _≤_}
 use mathlib.Core.Path.{_≡_, refl, sym, _∙_, ap, subst}
-use mathlib.Core.Bool.{Bool, true, false, cond, _&&_}
-use mathlib.Core.List.{List, [], _∷_, _++_, append-assoc, append-nil}
+use mathlib.Core.Bool.{Bool, true, false}
+use mathlib.Core.List.{List, _++_, append-assoc}
 use native.Mathlib.Omega.{arith}
 use lib.ListN.{length}
 use lib.Seq.{sets}
 use Rattle.laws.specs.Bools.{clash}
 use Rattle.laws.specs.Buffers.{Wrote, wrote-along, wrote-length}
-use Rattle.rules.specs.Picture.{Picture, Row, isOk, isOpen, withState, withDelay}
+use Rattle.rules.specs.Picture.{Picture, withState, withDelay}
 use Rattle.rules.specs.Order.{Order, encodeAll}
-use Rattle.rules.specs.Step.{Change, Response, refuse, change, refuseIf, asks, scanned, scan}
+use Rattle.rules.specs.Step.{Change, change}
 use Rattle.rules.specs.Ending.{settled, okOrder, waitOrder, told, ordersOf, pictureOf}
 use Rattle.rules.specs.Run.{Outcome, refused, taken, concluded, left, written, lent, numberOf}
 use Rattle.registry.specs.declared.image.RegistryImage.{RegistryImage}
 use Rattle.registry.specs.declared.record.Recorded.{Recorded}
 use Rattle.registry.specs.View.{viewOf}
-use Rattle.registry.specs.Outcome.{handed, expected, Does, ended, endOrders, Ends, scanOrders, Scans}
-use Rattle.orders.proofs.Writing.{orders-append, orders-length, wrote-orders}
+use Rattle.registry.specs.Outcome.{handed, expected, Does, ended, endOrders, Ends}
+use Rattle.orders.proofs.Writing.{orders-length, wrote-orders}
 
 -- the same outcome by another name
 pub along : {came : RegistryImage} {o o′ : Outcome} {b c : List ℕ} {r : Recorded} → o ≡ o′ → Does came o′ b r c → Does came o b r c

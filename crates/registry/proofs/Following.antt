@@ -1,6 +1,6 @@
 -- A run of calls has the rules' pictures, numbers and orders.
 use Prim.Native.Nat.{ℕ, zero, suc, _<_}
-use mathlib.Core.Path.{_≡_, refl, sym, _∙_, ap}
+use mathlib.Core.Path.{_≡_, refl, _∙_, ap}
 use mathlib.Core.Bool.{Bool, true, false, cond}
 use mathlib.Core.List.{List, [], _∷_, map}
 use native.Mathlib.Nat.{not-suc-le-zero, le-of-suc-le-suc}
@@ -13,7 +13,7 @@ use Rattle.registry.specs.declared.image.RegistryImage.{RegistryImage}
 use Rattle.registry.specs.declared.image.MakeAnswer.the-variants as makes
 use Rattle.registry.specs.View.{viewOf, makeNumberOf, makeAnswer}
 use Rattle.registry.specs.Outcome.{Handed, handed, expected, Does}
-use Rattle.registry.specs.Calls.{Call, Calls, no-call, then-call, imageAt, recordOf, Follows, Promises}
+use Rattle.registry.specs.Calls.{Call, Calls, then-call, imageAt, recordOf, Promises}
 
 -- what one call leaves
 does-picture : {i : RegistryImage} (c : Call) → Does i (step (viewOf i) (c .bytes) (length (c .before))) (c .before) (c .result) (c .after)

@@ -1,5 +1,5 @@
 -- The refusals 5 to 8 of an ANSWER and a NONE, from the entry that the code looks at.
-use Prim.Native.Nat.{ℕ, zero, suc, _-_, _<_, _≤_, min}
+use Prim.Native.Nat.{ℕ, suc, _-_, _<_, min}
 use mathlib.Core.Path.{_≡_, refl, sym, _∙_, ap}
 use mathlib.Core.Bool.{Bool, true, false, cond, not, _&&_, _||_}
 use mathlib.Core.List.{List, []}
@@ -10,10 +10,10 @@ use borrow.Author.Tests.{eqb-false, ltb-false, ne-eqb, le-ltb}
 use lib.Dec.{eqb, ltb}
 use lib.ListN.{length, getD}
 use Rattle.laws.specs.Bools.{clash}
-use Rattle.rules.specs.Picture.{Picture, State, Row, Pair, isNotOk, isOpen, isIgnored, seatAt, others, put}
+use Rattle.rules.specs.Picture.{Picture, State, Row, Pair, isNotOk, isOpen, isIgnored, seatAt, put}
 use Rattle.rules.specs.Event.{Event, START, NCE, SHUTDOWN, ANSWER, NONE, DELAY}
 use Rattle.rules.specs.Renumber.{finished}
-use Rattle.rules.specs.Step.{Response, refuse, change, refuseIf, noPosition, respond, changeRows, setOrder, silenced, verdict, answer}
+use Rattle.rules.specs.Step.{Response, refuse, change, refuseIf, noPosition, respond, changeRows, setOrder, silenced}
 use Rattle.rules.specs.Run.{Outcome, refused, concluded}
 use Rattle.node.specs.declared.entry.NodeEntry.{NodeEntry}
 use Rattle.node.specs.View.{rowOf, rowsOf}

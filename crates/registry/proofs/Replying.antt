@@ -2,16 +2,16 @@
 use Prim.Native.Nat.{ℕ, _+_, _-_, _≤_}
 use mathlib.Core.Path.{_≡_, refl, sym}
 use mathlib.Core.List.{List, _++_}
-use lib.ListN.{length, getD, set}
+use lib.ListN.{length, getD}
 use Rattle.laws.specs.Buffers.{Wrote, wrote-along}
-use Rattle.rules.specs.Picture.{Picture, Row, withRows, put, seatAt}
+use Rattle.rules.specs.Picture.{Picture, withRows, put, seatAt}
 use Rattle.rules.specs.Order.{Order, encodeAll}
 use Rattle.rules.specs.Renumber.{Renumbering}
 use Rattle.rules.specs.Step.{setOrder}
 use Rattle.rules.specs.Run.{written}
 use Rattle.node.specs.declared.entry.NodeEntry.{NodeEntry}
-use Rattle.node.specs.View.{rowOf, rowsOf}
-use Rattle.marks.specs.State.{stateOf, runs}
+use Rattle.node.specs.View.{rowOf}
+use Rattle.marks.specs.State.{stateOf}
 use Rattle.notes.specs.Told.{rowTold}
 use Rattle.registry.specs.declared.image.RegistryImage.{RegistryImage}
 use Rattle.registry.specs.declared.record.Recorded.{Recorded}
@@ -19,7 +19,7 @@ use Rattle.registry.specs.View.{viewOf}
 use Rattle.registry.specs.Outcome.{Does, Ends, Seat, endOrders, replyOutcome}
 use Rattle.announcement.specs.Hearing.{replyChange}
 use Rattle.registry.proofs.Doing.{done, end-room, front-room}
-use Rattle.registry.proofs.Places.{front-reply, put-entry}
+use Rattle.registry.proofs.Places.{front-reply}
 
 module _ (s : RegistryImage) (x : ℕ) (h : Seat s x) (a : ℕ) (e d : NodeEntry) (n : Renumbering) (b : List ℕ) where
   -- what is told of the entry

@@ -13,7 +13,7 @@ use Rattle.rules.specs.Picture.{Picture, Off, Row, isNotOk, isOk, isOpen, isSil
 use Rattle.rules.specs.House.{maxPass}
 use Rattle.rules.specs.Event.{START, NCE, SHUTDOWN, DELAY}
 use Rattle.rules.specs.Order.{Order, NOTOK, encode, encodeAll}
-use Rattle.rules.specs.Step.{Change, change, refuseIf, asks, scanned, scan, begin, shutDown, delayEnds, respond}
+use Rattle.rules.specs.Step.{change, refuseIf, asks, scanned, scan, begin, shutDown, delayEnds, respond}
 use Rattle.rules.specs.Ending.{becomesOk, settled, okOrder, told, waits, waitOrder, ordersOf}
 use Rattle.rules.specs.Run.{Outcome, refused, concluded, written}
 use Rattle.registry.specs.declared.image.RegistryImage.{RegistryImage}

@@ -1,22 +1,22 @@
 -- One record: its refusals 1 to 4, what its event does, and the pictures that are reached.
-use Prim.Native.Nat.{ℕ, suc, _<_, _≤_}
+use Prim.Native.Nat.{ℕ, _<_, _≤_}
 use mathlib.Core.Path.{_≡_, refl, sym, _∙_, ap, subst}
-use mathlib.Core.Bool.{Bool, true, false, cond, not, _&&_}
+use mathlib.Core.Bool.{Bool, true, false, cond, not}
 use mathlib.Core.List.{List, [], _∷_, _++_}
 use mathlib.Core.Option.{Option, none, some}
 use native.Mathlib.Omega.{arith}
 use native.Mathlib.Nat.{suc-ne-zero}
 use borrow.Author.Tests.{lt-ltb, le-ltb, leb-true}
-use lib.Dec.{ltb, leb}
+use lib.Dec.{leb}
 use lib.ListN.{length, take}
 use lib.Seq.{take-all}
-use Rattle.laws.specs.Bools.{clash, and-left}
+use Rattle.laws.specs.Bools.{and-left}
 use Rattle.rules.specs.House.{minRoom, minSize, maxSize}
 use Rattle.rules.specs.Picture.{Picture, State, Off, NotOk, Ok, Pair, legalSize, fresh, withRows, withState, withDelay}
 use Rattle.rules.specs.Event.{Event, START, NCE, SHUTDOWN, ANSWER, NONE, DELAY, decode}
-use Rattle.rules.specs.Step.{Change, Response, refuse, change, refuseIf, scanned, scan, begin, shutDown, changeRows, delayEnds, keepAnswer, takes, notTaken, respond}
+use Rattle.rules.specs.Step.{Change, refuseIf, scanned, scan, begin, shutDown, changeRows, delayEnds, keepAnswer, takes, notTaken, respond}
 use Rattle.rules.specs.Ending.{settled, pictureOf}
-use Rattle.rules.specs.Run.{Outcome, refused, taken, onEvent, onDecoded, concluded, step, Record, Sent, left, written, next, after}
+use Rattle.rules.specs.Run.{Outcome, refused, onEvent, onDecoded, concluded, step, Record, Sent, left, written, next, after}
 use Rattle.rules.specs.Claims.{pictureAt}
 use Rattle.rules.proofs.Decode.{formed}
 use Rattle.rules.proofs.Along.{Keeps, along}

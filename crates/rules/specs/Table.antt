@@ -2,7 +2,7 @@
 use Prim.Native.Nat.{ℕ, zero, suc, _/_, _%_, _^_}
 use mathlib.Core.List.{List, [], _∷_, map}
 use lib.ListN.{replicate, take}
-use Rattle.rules.specs.Picture.{State, Off, Pair, Picture, fresh, freshNumber}
+use Rattle.rules.specs.Picture.{Picture, fresh, freshNumber}
 use Rattle.rules.specs.Run.{Record, Result}
 use Rattle.rules.specs.Listing.{Entry, Lookup}
 use Rattle.rules.specs.Telegram.{Count, Cut, Joining, Join, JoinedAll}

@@ -4,7 +4,6 @@ use mathlib.Core.Path.{_≡_, refl, ap, _∙_}
 use mathlib.Core.List.{List}
 use native.Mathlib.Omega.{arith}
 use lib.ListN.{length, drop}
-use lib.Seq.{sets}
 use Rattle.laws.specs.Buffers.{sets-behind}
 use Rattle.rules.specs.Telegram as rules
 use Rattle.rules.specs.Telegram.{countNumber, countValue, cutNumber, cutLength, cutBytes, joinNumber, joinMsgId, joinLength}

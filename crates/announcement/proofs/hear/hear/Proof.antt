@@ -3,7 +3,6 @@ use Prim.Native.Nat.{_<_}
 use Rattle.announcement.proofs.Hearing.{hears-barred, hears-changed, hears-fine, hears-outside, hears-shared}
 use Rattle.announcement.proofs.Seats.{seat-pairs}
 use Rattle.judging.specs.Marks.{orEach}
-use Rattle.laws.specs.Lists.{collect}
 use Rattle.node.proofs.Arrays.{rows-length}
 use Rattle.pairs.specs.View.{pairsOf}
 use Rattle.node.specs.View.{rowOf, rowsOf}

@@ -4,12 +4,10 @@ use Rattle.announcement.proofs.Hearing.{row-for, set-for, set-none}
 use Rattle.pairs.proofs.Arrays.{pairs-length}
 use Rattle.pairs.specs.View.{pairsOf}
 use Rattle.node.specs.View.{rowOf, rowsOf}
-use Rattle.node.specs.declared.entry.NodeEntry.{NodeEntry}
 use Rattle.numbering.specs.Marks.{renumberingOf}
-use Rattle.numbering.specs.declared.renumber.Renumbering.{Renumbering}
 use Rattle.rules.specs.Picture.{seatAt}
 use lib.ListN.{length}
-use mathlib.Core.Path.{_≡_, _∙_, ap, sym}
+use mathlib.Core.Path.{_≡_, _∙_, ap}
 use native.Mathlib.Omega.{arith}
 use borrow.Author.Needs.{needs}
 use Rattle.announcement.proofs.hear.keep.Statement.{statement}

@@ -1,6 +1,5 @@
 -- The others are the entries with none in the seat.
-use Prim.Native.Nat.{suc, _<_}
-use Rattle.laws.specs.Lists.{collect}
+use Prim.Native.Nat.{_<_}
 use Rattle.announcement.proofs.Seats.{pairs-beside}
 use Rattle.pairs.specs.View.{pairsOf}
 use Rattle.node.specs.View.{rowsOf}

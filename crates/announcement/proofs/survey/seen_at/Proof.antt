@@ -2,9 +2,8 @@
 use Rattle.rules.specs.Picture.{noRow}
 use borrow.Author.Needs.{needs}
 use borrow.Author.Tests.{eq-eqb, ne-eqb}
-use lib.Dec.{eqb}
 use mathlib.Core.Bool.{Bool, cond}
-use mathlib.Core.Path.{_≡_, refl, sym, _∙_, ap}
+use mathlib.Core.Path.{sym, _∙_, ap}
 use Rattle.node.specs.View.{rowOf}
 use Rattle.announcement.proofs.survey.seen_at.Statement.{statement}
 use Rattle.announcement.proofs.survey.seen_at.Tie as tie

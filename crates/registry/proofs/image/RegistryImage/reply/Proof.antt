@@ -7,7 +7,6 @@ use Rattle.registry.specs.View.{viewOf}
 use Rattle.rules.specs.Picture.{withRows}
 use borrow.Author.Needs.{needs}
 use mathlib.Core.Path.{refl}
-use native.Mathlib.Omega.{arith}
 use Rattle.registry.proofs.image.RegistryImage.reply.Statement.{statement}
 use Rattle.registry.proofs.image.RegistryImage.reply.Tie as tie
 

@@ -24,12 +24,12 @@ fn command(script: &mut Vec<u8>, words: &str, bytes: impl Iterator<Item = u8>) {
     line(script, format!("{words}{digits}").as_bytes());
 }
 
-/// Records whose normal form is as long as a line may be, or longer: an ANSWER, and one with fewer blanks.
+/// Records whose normal form is as long as a line may be, or longer by little or much: an ANSWER, and one with fewer blanks.
 pub fn ringbox() -> Vec<u8> {
     let mut script = Vec::new();
     words(&mut script);
     let record = |kind: u8, length: usize| [0x4D, 0x45, kind].into_iter().chain((3..length).map(|place| place as u8));
-    for length in 6_549..=6_554 {
+    for length in (6_549..=6_554).chain([8_000]) {
         command(&mut script, "> ", record(0x04, length));
     }
     for length in 8_188..=8_190 {

@@ -1,5 +1,5 @@
 -- The cases of telegrams at full size as a table: messages of 65,535 bytes, and joining into a whole buffer. They stand apart from the
--- rules since computing them takes longer than all proofs of the rules.
+-- rules since computing them takes about as long as all proofs of the rules.
 use mathlib.Core.List.{List, [], _∷_}
 use lib.ListN.{replicate}
 use Rattle.rules.specs.Telegram.{uncounted, countIs, uncut, cutTo, idle, opened, unjoined, stillOpen, complete}

@@ -1,18 +1,14 @@
 // What is told of entries that have changed, and the SET of a renumbering.
-ghost use mathlib.Core.Path.{_≡_};
 ghost use mathlib.Core.List.{_++_};
 ghost use Prim.Native.Nat.{_+_, _≤_};
 ghost use lib.ListN.{length};
 ghost use Rattle.laws.specs.Buffers.{Wrote};
-ghost use Rattle.rules.specs.Picture.{isOk};
 ghost use Rattle.rules.specs.Order.{encodeAll};
 ghost use Rattle.rules.specs.Step.{setOrder};
 ghost use Rattle.node.specs.View.{rowOf, rowsOf};
 ghost use Rattle.numbering.specs.Marks.{renumberingOf};
 ghost use Rattle.marks.specs.State.{stateOf};
 ghost use Rattle.notes.specs.Told.{rowTold, rowsTold};
-use marks::NOTOK;
-use marks::OFF;
 use marks::RegistryState;
 use node::address::LogicalNodeAddress;
 use node::address::NodePosition;
@@ -20,19 +16,6 @@ use node::entry::NodeEntry;
 use numbering::renumber::Renumbering;
 use orders::order;
 use orders::order::Delta;
-
-// The state is OK.
-pub fn is_ok(state: RegistryState) -> bool
-    ensures { λ r. ⌜ r ≡ isOk (stateOf (state .0)) ⌝ }
-{
-    if state.0 == OFF {
-        return false;
-    }
-    if state.0 == NOTOK {
-        return false;
-    }
-    true
-}
 
 // INVALID and NEW for one entry, where the state is OK.
 fn tell_entry(
@@ -46,7 +29,7 @@ fn tell_entry(
     requires { ⌜ (3 ≤ size) × (length (encodeAll pass (rowTold (stateOf (state .0)) size (rowOf before) (rowOf after))) ≤ length (now out)) ⌝ }
     ensures { λ r. ⌜ Wrote (now (out .entry)) 0 (encodeAll pass (rowTold (stateOf (state .0)) size (rowOf before) (rowOf after))) r (now (out .exit)) ⌝ }
 {
-    if is_ok(state) {
+    if marks::is_ok(state) {
         let old = before.pairs();
         let new = after.pairs();
         let at = order::write_delta(out, 0, pass, Delta::Invalid, size, old.missing(new));
@@ -68,7 +51,7 @@ pub fn tell_entries(
     requires { ⌜ (3 ≤ size) × (length (encodeAll pass (rowsTold (stateOf (state .0)) size (rowsOf count before) (rowsOf count after))) ≤ length (now out)) ⌝ }
     ensures { λ r. ⌜ Wrote (now (out .entry)) 0 (encodeAll pass (rowsTold (stateOf (state .0)) size (rowsOf count before) (rowsOf count after))) r (now (out .exit)) ⌝ }
 {
-    if is_ok(state) {
+    if marks::is_ok(state) {
         let at = telling::write_changes(out, 0, pass, Delta::Invalid, size, count, before, after);
         return telling::write_changes(out, at, pass, Delta::New, size, count, before, after);
     }

@@ -112,7 +112,7 @@ impl RegistryImage {
         ensures { λ r. ⌜ lookupOf r ≡ lookUp (viewOf self) (pairOf block number) ⌝ }
     {
         let state = self.state;
-        if notes::is_ok(state) {
+        if marks::is_ok(state) {
             let entries = self.entries;
             return lookup::find(self.units as usize, entries, block, number);
         }

@@ -1,9 +1,9 @@
 -- By the state's number.
 use Rattle.marks.proofs.States.{by-state}
 use Rattle.rules.specs.Picture.{isOk}
 use borrow.Author.Tests.{ne-eqb}
-use Rattle.notes.proofs.is_ok.Statement.{statement}
-use Rattle.notes.proofs.is_ok.Tie as tie
+use Rattle.marks.proofs.is_ok.Statement.{statement}
+use Rattle.marks.proofs.is_ok.Tie as tie
 
 returns : tie.Need-returns
 unfolding isOk

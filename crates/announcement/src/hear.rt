@@ -10,7 +10,7 @@ ghost use Rattle.pairs.specs.View.{pairsOf};
 ghost use Rattle.node.specs.View.{rowOf, rowsOf};
 ghost use Rattle.judging.specs.Marks.{judgedOf};
 ghost use Rattle.numbering.specs.Marks.{renumberingOf};
-ghost use Rattle.announcement.specs.Hearing.{Hears, Keeps, heldBy};
+ghost use Rattle.announcement.specs.Hearing.{Hears};
 use super::survey;
 use judging::judge;
 use node::address::LogicalNodeAddress;
@@ -92,29 +92,6 @@ fn renumbering(
     renumber::renumber_from(count, others, announced, good, entry.place(), entry.tries())
 }
 
-// A fine announcement: the address is kept, the pairs are judged, and a bad one is renumbered.
-fn keep(
-    count: usize,
-    entries: [NodeEntry; 63],
-    seat: usize,
-    entry: NodeEntry,
-    address: LogicalNodeAddress,
-    announced: Pairs,
-    held: [bool; 16],
-) -> Heard
-    requires { ⌜ (seat < min count 63) × (rowOf entry ≡ seatAt (rowsOf count entries) (suc seat) .row) × (held ≡ heldBy (collect pairsIn (others (seatAt (rowsOf count entries) (suc seat)))) (pairsOf announced)) ⌝ }
-    ensures { λ r. ⌜ (r .conflict ≡ false) × Keeps (seatAt (rowsOf count entries) (suc seat)) (address .0) (pairsOf announced) r ⌝ }
-{
-    let good = judge::judge(held, announced);
-    let kept = judge::good_pairs(announced, good);
-    if kept.len() == announced.len() {
-        let none = Renumbering::Finished;
-        return Heard::entry(registered(address, kept, none, entry.bad), none);
-    }
-    let step = renumbering(count, entries, seat, entry, announced, good);
-    Heard::entry(registered(address, kept, step, entry.bad), step)
-}
-
 // What an announcement of the node in the seat comes to, by its address: barred, out of range, kept by another entry, other than the one
 // kept, or fine.
 pub fn hear(
@@ -133,15 +110,22 @@ pub fn hear(
     if claims.barred {
         return Heard::entry(entry.ignored(address), Renumbering::Finished);
     }
-    if address.in_range() {
-        if claims.kept {
-            return Heard::conflicting(true, claims.limit);
-        }
-        if entry.keeps_other(address) {
-            return Heard::conflicting(false, false);
-        }
-        let held = seen.held;
-        return keep(count, entries, seat, entry, address, announced, held);
+    if !address.in_range() {
+        return Heard::conflicting(false, false);
     }
-    Heard::conflicting(false, false)
+    if claims.kept {
+        return Heard::conflicting(true, claims.limit);
+    }
+    if entry.keeps_other(address) {
+        return Heard::conflicting(false, false);
+    }
+    let held = seen.held;
+    let good = judge::judge(held, announced);
+    let kept = judge::good_pairs(announced, good);
+    if kept.len() == announced.len() {
+        let none = Renumbering::Finished;
+        return Heard::entry(registered(address, kept, none, entry.bad), none);
+    }
+    let step = renumbering(count, entries, seat, entry, announced, good);
+    Heard::entry(registered(address, kept, step, entry.bad), step)
 }

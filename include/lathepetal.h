@@ -1,7 +1,7 @@
 /* Lathepetal: the registry work of a MOST NetworkMaster for one ring, and the cutting and joining of telegrams.
  *
  * A record (bytes) goes in with the ring picture; the next picture comes back, and the orders stand in a lent buffer. The library is the
- * archive liblathepetal.a for x86-64. It needs memcpy and memset and nothing else.
+ * archive liblathepetal.a for x86-64. It needs memcpy, memmove and memset and nothing else.
  *
  * What a caller keeps to:
  * - A picture handed to lathepetal_record is one that the box handed out, from lathepetal_fresh or from an earlier lathepetal_record,

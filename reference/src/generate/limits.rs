@@ -1,4 +1,4 @@
-//! Lines on both sides of the limit of 16,384 bytes, as they are read and in their normal form.
+//! Lines on both sides of the limit of 16,384 bytes, as they are read and in their normal form; and each byte in the place of a digit.
 
 const LIMIT: usize = 16_384;
 
@@ -22,6 +22,13 @@ fn line(script: &mut Vec<u8>, line: &[u8]) {
     script.push(b'\n');
 }
 
+/// Each byte behind these words, in the place of their last digit.
+fn digits(script: &mut Vec<u8>, words: &str) {
+    for byte in (0..=u8::MAX).filter(|&byte| byte != b'\n') {
+        line(script, &[words.as_bytes(), &[byte]].concat());
+    }
+}
+
 /// A command: its words, and so many bytes as hexadecimal without blanks.
 fn command(script: &mut Vec<u8>, words: &str, bytes: impl Iterator<Item = u8>) {
     let digits: String = bytes.map(|byte| format!("{byte:02X}")).collect();
@@ -32,6 +39,9 @@ fn command(script: &mut Vec<u8>, words: &str, bytes: impl Iterator<Item = u8>) {
 pub fn ringbox() -> Vec<u8> {
     let mut script = Vec::new();
     words(&mut script);
+    digits(&mut script, "lookup 01 2");
+    digits(&mut script, "room 1");
+    line(&mut script, b"room 8192");
     let record = |kind: u8, length: usize| [0x4D, 0x45, kind].into_iter().chain((3..length).map(|place| place as u8));
     for length in (6_549..=6_554).chain([8_000]) {
         command(&mut script, "> ", record(0x04, length));
@@ -46,6 +56,8 @@ pub fn ringbox() -> Vec<u8> {
 pub fn telegrams() -> Vec<u8> {
     let mut script = Vec::new();
     words(&mut script);
+    digits(&mut script, "payload 0");
+    digits(&mut script, "count 1");
     for words in ["join 9 9 ", "join 10 99 ", "join 12 100 ", "join 99 1000 ", "join 100 65535 "] {
         let most = (LIMIT - 2 - words.len()) / 2;
         for length in [most, most + 1] {

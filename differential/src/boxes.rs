@@ -223,7 +223,7 @@ impl RingBox for ReferenceRing {
 #[derive(Clone, Copy, PartialEq, Debug)]
 pub struct Joined {
     pub number: u8,
-    pub complete: bool,
+    pub complete: u8,
     pub msg_id: u32,
     pub length: usize,
 }
@@ -242,6 +242,9 @@ pub trait TelegramBox: Clone + PartialEq {
     fn join(&mut self, l: usize, buffer: &mut [u8], telegram: &[u8]) -> Joined;
 
     fn is_open(&self) -> bool;
+
+    /// A state without an open message is four zeros, and one with an open message is marked 1.
+    fn is_plain(&self) -> bool;
 }
 
 /// The join state of the proved library.
@@ -266,11 +269,18 @@ impl TelegramBox for ProvedTelegrams {
     fn join(&mut self, l: usize, buffer: &mut [u8], telegram: &[u8]) -> Joined {
         let outcome = lathepetal::join(self.0, l, buffer, telegram);
         self.0 = outcome.state;
-        Joined { number: outcome.number, complete: outcome.complete != 0, msg_id: outcome.msg_id, length: outcome.length }
+        Joined { number: outcome.number, complete: outcome.complete, msg_id: outcome.msg_id, length: outcome.length }
     }
 
     fn is_open(&self) -> bool {
         self.0.open != 0
+    }
+
+    fn is_plain(&self) -> bool {
+        match self.0.open {
+            0 => self.0 == JoinState { open: 0, msg_id: 0, counter: 0, length: 0 },
+            mark => mark == 1,
+        }
     }
 }
 
@@ -297,11 +307,15 @@ impl TelegramBox for ReferenceTelegrams {
             Err(number) => (number, None),
         };
         let (msg_id, length) = complete.unwrap_or((0, 0));
-        Joined { number, complete: complete.is_some(), msg_id, length }
+        Joined { number, complete: u8::from(complete.is_some()), msg_id, length }
     }
 
     fn is_open(&self) -> bool {
         self.0.is_open()
+    }
+
+    fn is_plain(&self) -> bool {
+        true
     }
 }
 

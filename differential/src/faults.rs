@@ -109,6 +109,10 @@ impl<const FAULT: u8> TelegramBox for FaultyTelegrams<FAULT> {
     fn is_open(&self) -> bool {
         self.0.is_open()
     }
+
+    fn is_plain(&self) -> bool {
+        self.0.is_plain()
+    }
 }
 
 fn ring_fault<const FAULT: u8>() -> Found {

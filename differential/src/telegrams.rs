@@ -189,12 +189,13 @@ impl<P: TelegramBox> Player<P> {
         let reference = self.reference.join(l, &mut reference_buffer[..room], telegram);
         differ("join", proved, reference)?;
         differ("open message", self.proved.is_open(), self.reference.is_open())?;
+        must("proved: zeros in the state without a message, or its mark 1", self.proved.is_plain(), true)?;
         differ_at("byte of the join buffer", proved_buffer, reference_buffer)?;
         match reference.number {
             0 => {
                 must_at("proved: byte behind the lent room", &proved_buffer[room..], &kept[room..])?;
                 kept.copy_from_slice(proved_buffer);
-                Ok(if reference.complete { Given::Message(reference.length) } else { Given::Open })
+                Ok(if reference.complete == 1 { Given::Message(reference.length) } else { Given::Open })
             }
             number => {
                 must_at("proved: byte of the buffer after a refusal", proved_buffer, kept)?;

@@ -5,13 +5,17 @@ const LIMIT: usize = 16_384;
 /// A line that is longer than all that a program keeps in memory.
 const FAR_TOO_LONG: usize = 400_000;
 
-/// Lines that are no command, of each length around the limit of a line and of a comment, one that is far too long, and a too long one
-/// whose shown start ends in blanks.
+/// Lines that are no command, of each length around the limit of a line and of a comment, one that is far too long, empty ones behind
+/// earlier answers, and a too long one whose shown start ends in blanks.
 fn words(script: &mut Vec<u8>) {
     for length in LIMIT - 3..=LIMIT + 1 {
         line(script, &vec![b'x'; length]);
     }
     line(script, &vec![b'y'; FAR_TOO_LONG]);
+    for earlier in ["= ", "< ", "! "] {
+        line(script, format!("{earlier}an earlier answer, and an empty line").as_bytes());
+        line(script, b"");
+    }
     let mut blanks = vec![b'x'; LIMIT + 1];
     blanks[40..70].fill(b' ');
     line(script, &blanks);

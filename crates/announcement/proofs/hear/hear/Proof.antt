@@ -8,12 +8,14 @@ use Rattle.judging.specs.Marks.{judgedOf, orEach}
 use Rattle.laws.specs.Lists.{collect}
 use Rattle.node.proofs.Arrays.{rows-length}
 use Rattle.node.specs.View.{rowOf, rowsOf}
+use Rattle.node.specs.declared.entry.NodeEntry.{NodeEntry}
 use Rattle.numbering.specs.Marks.{renumberingOf}
+use Rattle.numbering.specs.declared.renumber.Renumbering as declared
 use Rattle.pairs.proofs.Arrays.{pairs-length}
 use Rattle.pairs.specs.View.{pairsOf}
 use Rattle.pairs.specs.declared.Pairs.{Pairs}
 use Rattle.rules.specs.Renumber.{Renumbering, finished, freeNumber, placeOf, renumber, triesOf}
-use Rattle.rules.specs.Step.{listedRow, renumberingFor, statusAfter}
+use Rattle.rules.specs.Step.{renumberingFor, statusAfter}
 use Rattle.rules.specs.Picture.{Pair, Row, Seat, holds, inRange, keptBy, noRow, others, pairsIn, seatAt}
 use Rattle.rules.specs.Picture as rules
 use lib.ListN.{length, replicate}
@@ -167,9 +169,13 @@ module _ (g : tie.After-good-pairs) where
   set-at : {n : Renumbering} → n ≡ renumber (freeNumber (collect pairsIn (others taken)) (announced from)) (placeOf (rowOf (from .before .args .entry) .status)) (triesOf (rowOf (from .before .args .entry) .status)) (judgedOf (announced from) (g .before .judge .result)) → n ≡ renumberingFor taken (announced from)
   set-at = set-for taken (address from) (announced from) few (g .before .judge .result) (from .survey-of .result .held) (held-by from) (g .before .judge .ensures) (from .before .pre .1)
 
-  row-at : {n : Renumbering} {r : Row} → n ≡ renumberingFor taken (announced from)
-      → r ≡ record { status = statusAfter (address from) (pairsOf kept) n; bad = rowOf (from .before .args .entry) .bad; silences = 0 } → r ≡ listedRow taken (address from) (announced from)
-  row-at = row-for taken (address from) (announced from) few (g .before .judge .result) (from .survey-of .result .held) (held-by from) (g .before .judge .ensures) (from .before .pre .1) (g .good-pairs .ensures)
+  -- another entry and a renumbering, as the rules have them
+  becomes : {h : Heard} {e : NodeEntry} {s : declared.Renumbering} → (h .conflict ≡ false) × (h .next ≡ e) × (h .step ≡ s) → renumberingOf s ≡ renumberingFor taken (announced from)
+      → rowOf e ≡ record { status = statusAfter (address from) (pairsOf kept) (renumberingOf s); bad = rowOf (from .before .args .entry) .bad; silences = 0 }
+      → Hears taken (address from) (announced from) h
+  becomes w n r =
+      let row = row-for taken (address from) (announced from) few (g .before .judge .result) (from .survey-of .result .held) (held-by from) (g .before .judge .ensures) (from .before .pre .1) (g .good-pairs .ensures) n r in
+      fine (w .0, record { row = ap rowOf (w .1) ∙ row; set = ap renumberingOf (w .2) ∙ n })
 
 len-requires : tie.Need-len-requires
 len-requires c κs = search needs
@@ -192,13 +198,7 @@ returns-5 c =
     let at-len = at-len-2 .before in
     let g = at-len .before in
     let none = none-set g (omega (arith, kept-length g, ann-length g, at-len .len .ensures, at-len-2 .len2 .ensures, at-if5 .if5 .taken)) in
-    fine g (
-      c .entry2 .ensures .0,
-      record {
-        row = ap rowOf (c .entry2 .ensures .1) ∙ row-at g none (at-registered .registered .ensures);
-        set = ap renumberingOf (c .entry2 .ensures .2) ∙ none;
-      },
-    )
+    becomes g (c .entry2 .ensures) none (at-registered .registered .ensures)
 
 renumbering-requires : tie.Need-renumbering-requires
 renumbering-requires c κs = search needs
@@ -215,14 +215,7 @@ returns-6 c =
     let at-registered = c .before in
     let at-renumbering = at-registered .before in
     let g = at-renumbering .before .before .before .before in
-    let set = set-at g (at-renumbering .renumbering .ensures) in
-    fine g (
-      c .entry3 .ensures .0,
-      record {
-        row = ap rowOf (c .entry3 .ensures .1) ∙ row-at g set (at-registered .registered2 .ensures);
-        set = ap renumberingOf (c .entry3 .ensures .2) ∙ set;
-      },
-    )
+    becomes g (c .entry3 .ensures) (set-at g (at-renumbering .renumbering .ensures)) (at-registered .registered2 .ensures)
 
 pub hear-spec : {M : Type 1} → statement M
 hear-spec =

@@ -7,16 +7,16 @@ use Rattle.rules.specs.Picture.{legalSize, freshNumber}
 use Rattle.rules.specs.Telegram as rules
 use Rattle.registry.specs.declared.image.MakeAnswer.the-variants as makes
 use Rattle.registry.specs.View.{makeNumberOf, makeAnswer}
-use Rattle.joining.specs.declared.Reassembly.{Reassembly}
-use Rattle.joining.specs.declared.Joined.{Joined}
-use Rattle.counting.specs.declared.CountAnswer.{CountAnswer}
-use Rattle.segmentation.specs.declared.CutAnswer.{CutAnswer}
-use Rattle.segmentation.specs.Answers as segmentation
-use Rattle.joining.specs.Answers as joining
-use Rattle.counting.specs.Answers.{countNumberOf, countValueOf, countAnswer}
-use Rattle.segmentation.specs.Answers.{cutNumberOf, cutLengthOf}
-use Rattle.joining.specs.Answers.{joinNumberOf, joinMsgIdOf, joinLengthOf, joinAnswer}
-use Rattle.transport.proofs.Promises.{promises}
+use Rattle.tel_join_state.specs.declared.Reassembly.{Reassembly}
+use Rattle.tel_join_state.specs.declared.Joined.{Joined}
+use Rattle.tel_count.specs.declared.CountAnswer.{CountAnswer}
+use Rattle.tel_cut.specs.declared.CutAnswer.{CutAnswer}
+use Rattle.tel_cut.specs.Answers as segmentation
+use Rattle.tel_join_state.specs.Answers as joining
+use Rattle.tel_count.specs.Answers.{countNumberOf, countValueOf, countAnswer}
+use Rattle.tel_cut.specs.Answers.{cutNumberOf, cutLengthOf}
+use Rattle.tel_join_state.specs.Answers.{joinNumberOf, joinMsgIdOf, joinLengthOf, joinAnswer}
+use Rattle.tel_round_trip.proofs.Promises.{promises}
 use Rattle.lathepetal.specs.Numbers.{Cuts, Joins, completeOf, complete}
 
 -- a picture made for L

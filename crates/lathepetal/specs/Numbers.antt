@@ -4,10 +4,10 @@ use mathlib.Core.Path.{_≡_}
 use mathlib.Core.List.{List}
 use lib.Seq.{sets}
 use Rattle.rules.specs.Telegram as rules
-use Rattle.joining.specs.declared.Reassembly.{Reassembly}
-use Rattle.joining.specs.declared.JoinAnswer.{JoinAnswer}
-use Rattle.joining.specs.declared.JoinAnswer.the-variants as joins
-use Rattle.joining.specs.Answers.{joiningOf, handedBack}
+use Rattle.tel_join_state.specs.declared.Reassembly.{Reassembly}
+use Rattle.tel_join_state.specs.declared.JoinAnswer.{JoinAnswer}
+use Rattle.tel_join_state.specs.declared.JoinAnswer.the-variants as joins
+use Rattle.tel_join_state.specs.Answers.{joiningOf, handedBack}
 use Rattle.lathepetal.specs.declared.telegrams.CutOutcome.{CutOutcome}
 use Rattle.lathepetal.specs.declared.telegrams.JoinOutcome.{JoinOutcome}
 

@@ -2,16 +2,17 @@
 ghost use mathlib.Core.Path.{_≡_};
 ghost use lib.ListN.{length};
 ghost use Prim.Native.Nat.{_≤_};
+ghost use Rattle.rules.specs.House.{maxEntries};
 ghost use Rattle.rules.specs.Picture.{fresh, freshNumber};
 ghost use Rattle.rules.specs.Run.{step};
 ghost use Rattle.rules.specs.Listing.{listing, lookUp, lookupNumber, lookupPosition, lookupAddress};
-ghost use Rattle.pairs.specs.View.{pairOf};
-ghost use Rattle.listing.specs.View.{flatOf};
+ghost use Rattle.wire_pairs.specs.View.{pairOf};
+ghost use Rattle.ring_listing.specs.View.{flatOf};
 ghost use Rattle.registry.specs.View.{viewOf};
 ghost use Rattle.registry.specs.Outcome.{Does, Reached};
-use listing::flat::Listing;
 use registry::image::RegistryImage;
 use registry::record::Recorded;
+use ring_listing::Listing;
 
 // A fresh picture, and 0 where it is for the L that was asked for.
 #[repr(C)]
@@ -58,7 +59,7 @@ pub extern "C" fn lathepetal_record(
 // The whole listing, by position and announced order.
 #[no_mangle]
 pub extern "C" fn lathepetal_listing(picture: RegistryImage) -> Listing
-    ensures { λ r. ⌜ (r ≡ flatOf (listing (viewOf picture))) × (length (listing (viewOf picture)) ≤ 1008) ⌝ }
+    ensures { λ r. ⌜ (r ≡ flatOf (listing (viewOf picture))) × (length (listing (viewOf picture)) ≤ maxEntries) ⌝ }
 {
     picture.listing()
 }

@@ -2,10 +2,10 @@
 ghost use mathlib.Core.Path.{_≡_};
 ghost use lib.ListN.{length};
 ghost use Rattle.rules.specs.Telegram.{idle, count, countNumber, countValue, cut, join};
-ghost use Rattle.joining.specs.Answers.{joiningOf, stateOf};
+ghost use Rattle.tel_join_state.specs.Answers.{joiningOf, stateOf};
 ghost use Rattle.lathepetal.specs.Numbers.{Cuts, Joins, completeOf};
-use joining::JoinAnswer;
-use joining::Reassembly;
+use tel_join_state::JoinAnswer;
+use tel_join_state::Reassembly;
 
 // The number of a refusal or 0, and how many telegrams the message has.
 #[repr(C)]
@@ -50,7 +50,7 @@ fn complete(answer: JoinAnswer) -> u8
 pub extern "C" fn lathepetal_count(l: usize, payload: &[u8]) -> CountOutcome
     ensures { λ r. ⌜ (r .number ≡ countNumber (count l (now (payload .entry)))) × (r .telegrams ≡ countValue (count l (now (payload .entry)))) ⌝ }
 {
-    let answer = counting::count(l, payload);
+    let answer = tel_count::count(l, payload);
     CountOutcome {
         number: answer.number(),
         telegrams: answer.telegrams(),
@@ -68,7 +68,7 @@ pub extern "C" fn lathepetal_cut(
 ) -> CutOutcome
     ensures { λ r. ⌜ Cuts (cut l «msg_id» (now (payload .entry)) number (length (now (buffer .entry)))) (now (buffer .entry)) r (now (buffer .exit)) ⌝ }
 {
-    let answer = segmentation::cut(l, msg_id, payload, number, buffer);
+    let answer = tel_cut::cut(l, msg_id, payload, number, buffer);
     CutOutcome {
         number: answer.number(),
         length: answer.length(),
@@ -94,7 +94,7 @@ pub extern "C" fn lathepetal_join(
 ) -> JoinOutcome
     ensures { λ r. ⌜ Joins state (join l (joiningOf state) (now (buffer .entry)) (now (telegram .entry))) r (now (buffer .exit)) ⌝ }
 {
-    let joined = reassembly::join(state, l, buffer, telegram);
+    let joined = tel_join::join(state, l, buffer, telegram);
     let answer = joined.answer;
     let next = joined.state;
     JoinOutcome {

@@ -12,10 +12,10 @@ use Rattle.rules.specs.Picture.{Row, seatAt}
 use Rattle.rules.specs.Order.{NOTOK}
 use Rattle.rules.specs.Step.{change, refuseIf, changeRows, scan, counted, atLimit, onCounted, emptied, conflict}
 use Rattle.rules.specs.Run.{Outcome, refused, concluded}
-use Rattle.node.specs.declared.entry.NodeEntry.{NodeEntry}
-use Rattle.node.specs.View.{rowOf}
-use Rattle.entries.specs.Tests.{countsFor, struck}
-use Rattle.announcement.specs.Hearing.{othersAtLimit}
+use Rattle.row_entry.specs.declared.NodeEntry.{NodeEntry}
+use Rattle.row_entry.specs.View.{rowOf}
+use Rattle.ring_entries.specs.Tests.{countsFor, struck}
+use Rattle.ring_answer.specs.Hearing.{othersAtLimit}
 use Rattle.registry.specs.declared.image.RegistryImage.{RegistryImage}
 use Rattle.registry.specs.View.{viewOf}
 use Rattle.registry.specs.Outcome.{Seat, conflictOutcome, ignoreOutcome, restartOutcome}

@@ -17,7 +17,7 @@ use Rattle.registry.specs.declared.image.RegistryImage.{RegistryImage}
 use Rattle.registry.specs.declared.record.Recorded.{Recorded}
 use Rattle.registry.specs.View.{viewOf}
 use Rattle.registry.specs.Outcome.{handed, expected, Does, ended, endOrders, Ends}
-use Rattle.orders.proofs.Writing.{orders-length, wrote-orders}
+use Rattle.wire_orders.proofs.Writing.{orders-length, wrote-orders}
 
 -- the same outcome by another name
 pub along : {came : RegistryImage} {o o′ : Outcome} {b c : List ℕ} {r : Recorded} → o ≡ o′ → Does came o′ b r c → Does came o b r c

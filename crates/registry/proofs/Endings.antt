@@ -9,9 +9,9 @@ use Rattle.laws.specs.Lists.{any}
 use Rattle.rules.specs.Picture.{State, Picture, withState, withDelay, isOpen, isSilent}
 use Rattle.rules.specs.Order.{encodeAll}
 use Rattle.rules.specs.Ending.{becomesOk, settled, okOrder, waits, waitOrder}
-use Rattle.entries.specs.Tests.{isShort}
-use Rattle.closing.specs.declared.Closed.{Closed}
-use Rattle.closing.specs.Closing.{isOver, stateAfter, startsDelay, closingOrders, Closes}
+use Rattle.ring_entries.specs.Tests.{isShort}
+use Rattle.ring_ending.specs.declared.Closed.{Closed}
+use Rattle.ring_ending.specs.Closing.{isOver, stateAfter, startsDelay, closingOrders, Closes}
 use Rattle.registry.specs.declared.image.RegistryImage.{RegistryImage}
 use Rattle.registry.specs.View.{viewOf}
 use Rattle.registry.specs.Outcome.{ended, endOrders, Ends}

@@ -11,18 +11,18 @@ use Rattle.rules.specs.Order.{Order}
 use Rattle.rules.specs.Renumber.{Renumbering}
 use Rattle.rules.specs.Step.{onCounted, setOrder}
 use Rattle.rules.specs.Ending.{told}
-use Rattle.node.specs.declared.entry.NodeEntry.{NodeEntry}
-use Rattle.node.specs.View.{rowOf, rowsOf}
-use Rattle.node.proofs.Arrays.{rows-length, rows-at, rows-set}
-use Rattle.entries.specs.Tests.{countsFor, struck, struckIf}
+use Rattle.row_entry.specs.declared.NodeEntry.{NodeEntry}
+use Rattle.row_entry.specs.View.{rowOf, rowsOf}
+use Rattle.row_entry.proofs.Arrays.{rows-length, rows-at, rows-set}
+use Rattle.ring_entries.specs.Tests.{countsFor, struck, struckIf}
 use Rattle.registry.specs.declared.image.RegistryImage.{RegistryImage}
-use Rattle.marks.specs.State.{stateOf}
+use Rattle.ring_state.specs.State.{stateOf}
 use Rattle.registry.specs.View.{viewOf}
 use Rattle.registry.specs.Outcome.{Seat}
-use Rattle.announcement.specs.Hearing.{replyChange}
-use Rattle.notes.specs.Told.{rowTold}
+use Rattle.ring_answer.specs.Hearing.{replyChange}
+use Rattle.ring_tell.specs.Told.{rowTold}
 use Rattle.registry.proofs.Telling.{told-put}
-use Rattle.announcement.proofs.Seats.{seat-row, seat-put, seat-counted}
+use Rattle.ring_answer.proofs.Seats.{seat-row, seat-put, seat-counted}
 
 module _ (s : RegistryImage) (x : ℕ) (h : Seat s x) where
   pub index : x ≡ suc (x - 1)

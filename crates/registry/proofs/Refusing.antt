@@ -10,22 +10,23 @@ use borrow.Author.Tests.{eqb-false, ltb-false, ne-eqb, le-ltb}
 use lib.Dec.{eqb, ltb}
 use lib.ListN.{length, getD}
 use Rattle.laws.specs.Bools.{clash}
+use Rattle.rules.specs.House.{maxUnits}
 use Rattle.rules.specs.Picture.{Picture, State, Row, Pair, isNotOk, isOpen, isIgnored, seatAt, put}
 use Rattle.rules.specs.Event.{Event, START, NCE, SHUTDOWN, ANSWER, NONE, DELAY}
 use Rattle.rules.specs.Renumber.{finished}
 use Rattle.rules.specs.Step.{Response, refuse, change, refuseIf, noPosition, respond, changeRows, setOrder, silenced}
 use Rattle.rules.specs.Run.{Outcome, refused, concluded}
-use Rattle.node.specs.declared.entry.NodeEntry.{NodeEntry}
-use Rattle.node.specs.View.{rowOf, rowsOf}
-use Rattle.node.proofs.Arrays.{rows-length}
-use Rattle.records.specs.declared.event.Event as declared
-use Rattle.records.specs.declared.event.Event.the-variants as events
-use Rattle.records.specs.View.{eventOf}
-use Rattle.announcement.specs.Hearing.{answered}
+use Rattle.row_entry.specs.declared.NodeEntry.{NodeEntry}
+use Rattle.row_entry.specs.View.{rowOf, rowsOf}
+use Rattle.row_entry.proofs.Arrays.{rows-length}
+use Rattle.wire_events.specs.declared.Event as declared
+use Rattle.wire_events.specs.declared.Event.the-variants as events
+use Rattle.wire_events.specs.View.{eventOf}
+use Rattle.ring_answer.specs.Hearing.{answered}
 use Rattle.registry.specs.declared.image.RegistryImage.{RegistryImage}
 use Rattle.registry.specs.View.{viewOf}
 use Rattle.registry.specs.Outcome.{Seat, respondTo, replyOutcome}
-use Rattle.refusals.specs.Numbers.{placeIn, seatIn, seatRefusal, orElse, replyRefusal}
+use Rattle.ring_refusals.specs.Numbers.{placeIn, seatIn, seatRefusal, orElse, replyRefusal}
 use Rattle.registry.proofs.Places.{seat-entry}
 
 -- the number that an ANSWER or a NONE is refused with, by the rules' own tests; 0 where it is not
@@ -113,8 +114,8 @@ neither : (a b : Bool) → (a || b) ≡ false → (a ≡ false) × (b ≡ false)
 neither true b h = clash refl h
 neither false b h = (refl, h)
 
-module _ (s : RegistryImage) (full : length (s .entries) ≡ 63) where
-  as-long : length (rowsOf (s .units) (s .entries)) ≡ min (s .units) 63
+module _ (s : RegistryImage) (full : length (s .entries) ≡ maxUnits) where
+  as-long : length (rowsOf (s .units) (s .entries)) ≡ min (s .units) maxUnits
   as-long = rows-length (s .entries) full (s .units)
 
   module _ (x : ℕ) where
@@ -127,10 +128,10 @@ module _ (s : RegistryImage) (full : length (s .entries) ≡ 63) where
     pub placed : Seat s x → placeIn x ≡ x - 1
     unfolding placeIn
     placed h =
-        ap (λ (b : Bool). cond b 0 (cond (ltb 63 x) 0 (x - 1))) (ne-eqb x 0 (λ e. let f = h .first in suc-ne-zero 0 (omega (arith, e, f))))
-        ∙ ap (λ (b : Bool). cond b 0 (x - 1)) (le-ltb 63 x (omega (arith, h .last)))
+        ap (λ (b : Bool). cond b 0 (cond (ltb maxUnits x) 0 (x - 1))) (ne-eqb x 0 (λ e. let f = h .first in suc-ne-zero 0 (omega (arith, e, f))))
+        ∙ ap (λ (b : Bool). cond b 0 (x - 1)) (le-ltb maxUnits x (omega (arith, h .last)))
 
-module _ (s : RegistryImage) (full : length (s .entries) ≡ 63) (d : NodeEntry) where
+module _ (s : RegistryImage) (full : length (s .entries) ≡ maxUnits) (d : NodeEntry) where
   module _ (x : ℕ) where
     own-row : noPosition (viewOf s) x ≡ false → rowOf (getD (s .entries) (placeIn x) d) ≡ seatAt (viewOf s .rows) x .row
     unfolding viewOf
@@ -146,8 +147,8 @@ module _ (s : RegistryImage) (full : length (s .entries) ≡ 63) (d : NodeEntry)
           or-first (not (eqb c (s .pass))) 5 _ _ refl
           ∙ ap (cond (not (eqb c (s .pass))) 5)
           (or-first (eqb x 0) 6 _ _ refl
-          ∙ ap (cond (eqb x 0) 6) (or-first (ltb (min (s .units) 63) x) 6 _ _ refl ∙ ap (cond (ltb (min (s .units) 63) x) 6) (or-first (isIgnored r) 7 0 _ refl))
-          ∙ or-both (eqb x 0) (ltb (min (s .units) 63) x) 6 _
+          ∙ ap (cond (eqb x 0) 6) (or-first (ltb (min (s .units) maxUnits) x) 6 _ _ refl ∙ ap (cond (ltb (min (s .units) maxUnits) x) 6) (or-first (isIgnored r) 7 0 _ refl))
+          ∙ or-both (eqb x 0) (ltb (min (s .units) maxUnits) x) 6 _
           ∙ ap (λ (n : ℕ). cond (eqb x 0 || ltb n x) 6 (cond (isIgnored r) 7 (f r))) (sym (as-long s full))
           ∙ behind (noPosition (viewOf s) x) 6 (λ (q : Row). cond (isIgnored q) 7 (f q)) r (seatAt (viewOf s .rows) x .row) own-row)
 
@@ -221,7 +222,7 @@ module _ (s : RegistryImage) (x : ℕ) (h : Seat s x) {i : ℕ} (at : i ≡ plac
   pub next-place : suc i ≡ x
   next-place = omega (arith, at, placed s (h .full) x h, h .first)
 
-  pub place-below : i < min (s .units) 63
+  pub place-below : i < min (s .units) maxUnits
   place-below = omega (arith, next-place, h .last)
 
   pub place-row : (d : NodeEntry) → rowOf (getD (s .entries) i d) ≡ seatAt (rowsOf (s .units) (s .entries)) x .row

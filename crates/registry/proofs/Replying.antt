@@ -9,15 +9,15 @@ use Rattle.rules.specs.Order.{Order, encodeAll}
 use Rattle.rules.specs.Renumber.{Renumbering}
 use Rattle.rules.specs.Step.{setOrder}
 use Rattle.rules.specs.Run.{written}
-use Rattle.node.specs.declared.entry.NodeEntry.{NodeEntry}
-use Rattle.node.specs.View.{rowOf}
-use Rattle.marks.specs.State.{stateOf}
-use Rattle.notes.specs.Told.{rowTold}
+use Rattle.row_entry.specs.declared.NodeEntry.{NodeEntry}
+use Rattle.row_entry.specs.View.{rowOf}
+use Rattle.ring_state.specs.State.{stateOf}
+use Rattle.ring_tell.specs.Told.{rowTold}
 use Rattle.registry.specs.declared.image.RegistryImage.{RegistryImage}
 use Rattle.registry.specs.declared.record.Recorded.{Recorded}
 use Rattle.registry.specs.View.{viewOf}
 use Rattle.registry.specs.Outcome.{Does, Ends, Seat, endOrders, replyOutcome}
-use Rattle.announcement.specs.Hearing.{replyChange}
+use Rattle.ring_answer.specs.Hearing.{replyChange}
 use Rattle.registry.proofs.Doing.{done, end-room, front-room}
 use Rattle.registry.proofs.Places.{front-reply}
 

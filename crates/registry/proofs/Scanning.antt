@@ -20,7 +20,7 @@ use Rattle.registry.specs.declared.image.RegistryImage.{RegistryImage}
 use Rattle.registry.specs.declared.record.Recorded.{Recorded}
 use Rattle.registry.specs.View.{viewOf}
 use Rattle.registry.specs.Outcome.{Does, ended, endOrders, Ends, scanOrders, Scans}
-use Rattle.orders.proofs.Writing.{orders-one, orders-length, wrote-orders}
+use Rattle.wire_orders.proofs.Writing.{orders-one, orders-length, wrote-orders}
 use Rattle.registry.proofs.Doing.{takes, orders-of, written-taken}
 use Rattle.registry.proofs.Telling.{told-asked}
 

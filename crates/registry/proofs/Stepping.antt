@@ -23,14 +23,14 @@ use Rattle.rules.proofs.Along.{Keeps, along}
 use Rattle.rules.proofs.Ways.{Ways, Always, in-every-way}
 use Rattle.rules.proofs.Demand3.{running-at}
 use Rattle.rules.proofs.Records.{record-fits}
-use Rattle.records.specs.declared.event.Event as declared
-use Rattle.records.specs.declared.event.Event.the-variants as events
-use Rattle.records.specs.View.{eventOf}
+use Rattle.wire_events.specs.declared.Event as declared
+use Rattle.wire_events.specs.declared.Event.the-variants as events
+use Rattle.wire_events.specs.View.{eventOf}
 use Rattle.registry.specs.declared.image.RegistryImage.{RegistryImage}
 use Rattle.registry.specs.declared.record.Recorded.{Recorded}
 use Rattle.registry.specs.View.{viewOf}
 use Rattle.registry.specs.Outcome.{handed, expected, Handed, Does, Reached, respondTo, WellFormed}
-use Rattle.refusals.specs.Numbers.{refusalOf}
+use Rattle.ring_refusals.specs.Numbers.{refusalOf}
 
 -- refusals 1 to 4
 module _ (p : Picture) (b : List ℕ) (room : ℕ) where

@@ -14,7 +14,7 @@ use Rattle.rules.specs.Picture.{Pair, samePair, holds, isOk, Row, Status, WAITI
 use Rattle.rules.specs.Order.{Order, NEW, INVALID}
 use Rattle.rules.specs.Step.{asked}
 use Rattle.rules.specs.Ending.{missing, packed, tell, lost, gained, tellRows, told}
-use Rattle.notes.specs.Told.{rowTold, rowsTold}
+use Rattle.ring_tell.specs.Told.{rowTold, rowsTold}
 
 -- every pair is one of its own list
 same-self : (a : Pair) → samePair a a ≡ true

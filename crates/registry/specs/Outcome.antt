@@ -7,15 +7,15 @@ use mathlib.Core.Option.{Option, none, some}
 use lib.ListN.{length}
 use lib.Seq.{sets}
 use Rattle.rules.specs.Picture.{Picture, Row, fresh, withDelay, isOpen, seatAt}
-use Rattle.rules.specs.House.{maxNodes}
+use Rattle.rules.specs.House.{maxNodes, maxUnits}
 use Rattle.rules.specs.Event.{Event, START, NCE, SHUTDOWN, ANSWER, NONE, DELAY}
 use Rattle.rules.specs.Order.{Order, NOTOK, encodeAll}
 use Rattle.rules.specs.Renumber.{Renumbering}
 use Rattle.rules.specs.Step.{Response, refuse, change, respond, asks, scanned, scan, changeRows, emptied, onCounted, conflict}
 use Rattle.rules.specs.Ending.{settled, okOrder, waits, waitOrder}
 use Rattle.rules.specs.Run.{Outcome, refused, concluded, left, lent, numberOf, written, Record, after}
-use Rattle.entries.specs.Tests.{countsFor, struck}
-use Rattle.announcement.specs.Hearing.{replyChange}
+use Rattle.ring_entries.specs.Tests.{countsFor, struck}
+use Rattle.ring_answer.specs.Hearing.{replyChange}
 use Rattle.registry.specs.declared.image.RegistryImage.{RegistryImage}
 use Rattle.registry.specs.declared.record.Recorded.{Recorded}
 use Rattle.registry.specs.View.{viewOf}
@@ -101,6 +101,6 @@ restartOutcome shared p x a =
 
 -- position x has a row
 pub record Seat (i : RegistryImage) (x : ℕ) : Type 0 where
-  pub full : length (i .entries) ≡ 63
+  pub full : length (i .entries) ≡ maxUnits
   pub first : 1 ≤ x
-  pub last : x ≤ min (i .units) 63
+  pub last : x ≤ min (i .units) maxUnits

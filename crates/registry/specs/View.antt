@@ -4,10 +4,11 @@ use mathlib.Core.Path.{_≡_}
 use mathlib.Core.Bool.{cond}
 use mathlib.Core.List.{List}
 use lib.ListN.{replicate}
+use Rattle.rules.specs.House.{maxUnits}
 use Rattle.rules.specs.Picture.{Picture, legalSize, newRow}
-use Rattle.node.specs.declared.entry.NodeEntry.{NodeEntry}
-use Rattle.node.specs.View.{rowsOf}
-use Rattle.marks.specs.State.{stateOf, runs}
+use Rattle.row_entry.specs.declared.NodeEntry.{NodeEntry}
+use Rattle.row_entry.specs.View.{rowsOf}
+use Rattle.ring_state.specs.State.{stateOf, runs}
 use Rattle.registry.specs.declared.image.RegistryImage.{RegistryImage}
 use Rattle.registry.specs.declared.image.MakeAnswer.{MakeAnswer}
 use Rattle.registry.specs.declared.image.MakeAnswer.the-variants as makes
@@ -25,4 +26,4 @@ makeAnswer l = cond (legalSize l) makes.Made (makes.Refused 10)
 
 -- entries that are asked and count nothing yet
 abbrev pub AllNew : List NodeEntry → Type 0
-AllNew es = (k : ℕ) → k ≤ 63 → rowsOf k es ≡ replicate k newRow
+AllNew es = (k : ℕ) → k ≤ maxUnits → rowsOf k es ≡ replicate k newRow

@@ -5,22 +5,21 @@ ghost use lib.ListN.{length};
 ghost use Rattle.rules.specs.House.{maxPass};
 ghost use Rattle.rules.specs.Picture.{seatAt};
 ghost use Rattle.rules.specs.Run.{written};
-ghost use Rattle.node.specs.View.{rowOf};
-ghost use Rattle.numbering.specs.Marks.{renumberingOf};
+ghost use Rattle.row_entry.specs.View.{rowOf};
+ghost use Rattle.row_renumber.specs.Marks.{renumberingOf};
 ghost use Rattle.registry.specs.View.{viewOf};
 ghost use Rattle.registry.specs.Outcome.{Does, Seat, replyOutcome, conflictOutcome, ignoreOutcome, restartOutcome};
-ghost use Rattle.announcement.specs.Hearing.{othersAtLimit};
+ghost use Rattle.ring_answer.specs.Hearing.{othersAtLimit};
 use super::image::RegistryImage;
 use super::record::Recorded;
 use super::scan::MAX_PASS;
-use super::scan::NO_PASS_LEFT;
-use entries::changes;
-use node::address::LogicalNodeAddress;
-use node::address::NodePosition;
-use node::entry::NodeEntry;
-use numbering::renumber::Renumbering;
-use orders::order;
-use orders::order::Notice;
+use numbers::NO_PASS_LEFT;
+use ring_entries::changes;
+use row_entry::NodeEntry;
+use row_renumber::renumber::Renumbering;
+use wire_address::LogicalNodeAddress;
+use wire_address::NodePosition;
+use wire_orders::Notice;
 
 impl RegistryImage {
     // The entry of a position becomes another, and a renumbering is sent: what is told of the entry, the SET, and the ending.
@@ -38,7 +37,7 @@ impl RegistryImage {
         let i = position.0 as usize - 1;
         let entry = self.entries[i];
         let state = self.state;
-        let at = notes::tell_reply(
+        let at = ring_tell::told::tell_reply(
             out,
             self.pass,
             state,
@@ -70,7 +69,15 @@ impl RegistryImage {
         let mut after = changes::all_struck(units, before, shared, true, address);
         after[i] = changes::strike(before[i], true, address);
         let state = self.state;
-        let at = notes::tell_entries(out, self.pass, state, self.size, units, before, after);
+        let at = ring_tell::told::tell_entries(
+            out,
+            self.pass,
+            state,
+            self.size,
+            units,
+            before,
+            after,
+        );
         self.entries = after;
         self.finish(out, at)
     }
@@ -91,7 +98,7 @@ impl RegistryImage {
         let before = self.entries;
         let mut struck = changes::all_struck(units, before, shared, false, address);
         struck[i] = changes::strike(before[i], false, address);
-        let at = order::write_notice(out, 0, self.pass + 1, Notice::NotOk);
+        let at = wire_orders::write_notice(out, 0, self.pass + 1, Notice::NotOk);
         let entries = changes::all_emptied(units, struck);
         self.entries = entries;
         self.scan(out, at)

@@ -6,7 +6,7 @@ ghost use Rattle.registry.specs.View.{viewOf};
 ghost use Rattle.registry.specs.Outcome.{endOrders, Ends};
 use super::image::RegistryImage;
 use super::record::Recorded;
-use entries::outlook;
+use ring_entries::outlook;
 
 impl RegistryImage {
     // The ending of an event whose steps left this picture and wrote orders up to `at`.
@@ -18,7 +18,7 @@ impl RegistryImage {
         let seen = outlook::outlook_of(self.units as usize, entries);
         let came = self.state;
         let delay = self.delay;
-        let closed = closing::close(
+        let closed = ring_ending::close(
             out,
             at,
             self.pass,

@@ -5,14 +5,15 @@ ghost use mathlib.Core.List.{[]};
 ghost use Rattle.rules.specs.Picture.{Picture, Off, fresh};
 ghost use Rattle.registry.specs.View.{viewOf, AllNew, makeNumberOf, makeAnswer};
 ghost use Rattle.registry.specs.Outcome.{Reached};
-use marks::CfgDelay;
-use marks::OFF;
-use marks::RegistryState;
-use marks::STOPPED;
-use node::entry::NodeEntry;
-use telegram::limits::ILLEGAL_SIZE;
-use telegram::limits::MAX_SIZE;
-use telegram::limits::MIN_SIZE;
+use numbers::ILLEGAL_SIZE;
+use ring_state::CfgDelay;
+use ring_state::OFF;
+use ring_state::RegistryState;
+use ring_state::STOPPED;
+use row_entry::NodeEntry;
+use sizes::MAX_SIZE;
+use sizes::MAX_UNITS;
+use sizes::MIN_SIZE;
 
 // The paper's ring picture: the pass, the state, whether a delay runs, L, and an entry for each unit of the ring, the first `units` of
 // the array.
@@ -23,7 +24,7 @@ pub struct RegistryImage {
     pub delay: CfgDelay,
     pub size: u8,
     pub units: u8,
-    pub entries: [NodeEntry; 63],
+    pub entries: [NodeEntry; MAX_UNITS],
 }
 
 // What making a picture answers: the number of a refusal, or that it is made for the L that was asked for.
@@ -51,10 +52,10 @@ impl MakeAnswer {
 }
 
 // Entries that are asked and count nothing yet.
-pub(crate) fn new_entries() -> [NodeEntry; 63]
+pub(crate) fn new_entries() -> [NodeEntry; MAX_UNITS]
     ensures { λ r. ⌜ AllNew r ⌝ }
 {
-    [NodeEntry::new(); 63]
+    [NodeEntry::new(); MAX_UNITS]
 }
 
 impl RegistryImage {

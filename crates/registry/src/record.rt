@@ -5,17 +5,13 @@ ghost use Rattle.rules.specs.Run.{step};
 ghost use Rattle.registry.specs.View.{viewOf};
 ghost use Rattle.registry.specs.Outcome.{Does, Reached};
 use super::image::RegistryImage;
-use announcement::hear;
-use node::address::LogicalNodeAddress;
-use numbering::renumber::Renumbering;
-use records::event;
-use records::event::Event;
-use refusals::MALFORMED;
-
-// The least room that orders are written to.
-pub const MIN_ROOM: usize = 512;
-
-pub const ROOM_TOO_SHORT: u8 = 1;
+use numbers::ORDER_ROOM_TOO_SHORT;
+use numbers::RECORD_MALFORMED;
+use ring_answer::hear;
+use row_renumber::renumber::Renumbering;
+use sizes::MIN_ROOM;
+use wire_address::LogicalNodeAddress;
+use wire_events::Event;
 
 // What a record gives back: the number of a refusal, 0 where it is taken; how many bytes the orders have; and the next picture. Numbers,
 // and no enum beside the picture, so that it crosses to C as it is.
@@ -44,23 +40,23 @@ impl RegistryImage {
         ensures { λ r. ⌜ Does self (step (viewOf self) (now (bytes .entry)) (length (now (out .entry)))) (now (out .entry)) r (now (out .exit)) × Reached (viewOf (r .picture)) ⌝ }
     {
         if out.len() < MIN_ROOM {
-            return self.refuse(ROOM_TOO_SHORT);
+            return self.refuse(ORDER_ROOM_TOO_SHORT);
         }
-        let read = event::decode(bytes);
+        let read = wire_events::decode(bytes);
         let event = read.event;
         let state = self.state;
-        let number = refusals::refusal(state, event);
+        let number = ring_refusals::refusal(state, event);
         if number != 0 {
             return self.refuse(number);
         }
-        let seat = refusals::seat_of(event);
+        let seat = ring_refusals::seat_of(event);
         let entry = self.entries[seat];
-        let late = refusals::reply_refusal(state, self.pass, self.units, entry, event);
+        let late = ring_refusals::reply_refusal(state, self.pass, self.units, entry, event);
         if late != 0 {
             return self.refuse(late);
         }
         match event {
-            Event::Malformed => self.refuse(MALFORMED),
+            Event::Malformed => self.refuse(RECORD_MALFORMED),
             Event::Start(nodes) => self.start(out, nodes),
             Event::NetworkChange(nodes) => self.network_change(out, nodes),
             Event::Shutdown => self.shut_down(out),

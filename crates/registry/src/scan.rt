@@ -1,7 +1,7 @@
 // Scans of the ring: START, NCE and restarts; SHUTDOWN; DELAY.
 ghost use Prim.Native.Nat.{suc, _+_, _≤_, _<_};
 ghost use lib.ListN.{length};
-ghost use Rattle.rules.specs.House.{maxPass};
+ghost use Rattle.rules.specs.House.{maxPass, maxNodes};
 ghost use Rattle.rules.specs.Event.{START, NCE, SHUTDOWN, DELAY};
 ghost use Rattle.rules.specs.Order.{encodeAll};
 ghost use Rattle.rules.specs.Step.{respond};
@@ -11,21 +11,19 @@ ghost use Rattle.registry.specs.Outcome.{scanOrders, Scans, Does};
 use super::image;
 use super::image::RegistryImage;
 use super::record::Recorded;
-use entries::changes;
-use marks::CfgDelay;
-use marks::NOTOK;
-use marks::RegistryState;
-use marks::STOPPED;
-use orders::order;
-use orders::order::Notice;
-use refusals::NOT_ASKED;
-use refusals::WRONG_PASS;
-use telling::Which;
+use numbers::NO_PASS_LEFT;
+use numbers::NOT_ASKED;
+use numbers::WRONG_PASS;
+use ring_entries::changes;
+use ring_state::CfgDelay;
+use ring_state::NOTOK;
+use ring_state::RegistryState;
+use ring_state::STOPPED;
+use ring_tell::asks::Which;
+use wire_orders::Notice;
 
 // The last pass.
 pub const MAX_PASS: u32 = 4294967295;
-
-pub const NO_PASS_LEFT: u8 = 9;
 
 impl RegistryImage {
     // A scan of these entries, behind the orders written up to `at`: the next pass, NOTOK, no delay, an ASK for each open question.
@@ -36,7 +34,7 @@ impl RegistryImage {
         let pass = self.pass + 1;
         let units = self.units as usize;
         let entries = self.entries;
-        let end = telling::write_asks(out, at, pass, Which::Open, units, entries);
+        let end = ring_tell::asks::write_asks(out, at, pass, Which::Open, units, entries);
         self.pass = pass;
         let state = RegistryState(NOTOK);
         self.state = state;
@@ -47,7 +45,7 @@ impl RegistryImage {
 
     // START: the ring has `nodes` nodes, and its units are asked.
     pub(crate) fn start(mut self, out: &mut [u8], nodes: u8) -> Recorded
-        requires { ⌜ (1 ≤ nodes) × (nodes ≤ 64) × (length (written (concluded (viewOf self) (respond (viewOf self) (START nodes)))) ≤ length (now out)) ⌝ }
+        requires { ⌜ (1 ≤ nodes) × (nodes ≤ maxNodes) × (length (written (concluded (viewOf self) (respond (viewOf self) (START nodes)))) ≤ length (now out)) ⌝ }
         ensures { λ r. ⌜ Does self (concluded (viewOf self) (respond (viewOf self) (START nodes))) (now (out .entry)) r (now (out .exit)) ⌝ }
     {
         if MAX_PASS <= self.pass {
@@ -61,13 +59,13 @@ impl RegistryImage {
 
     // NCE: the same, with the order NOTOK first.
     pub(crate) fn network_change(mut self, out: &mut [u8], nodes: u8) -> Recorded
-        requires { ⌜ (1 ≤ nodes) × (nodes ≤ 64) × (length (written (concluded (viewOf self) (respond (viewOf self) (NCE nodes)))) ≤ length (now out)) ⌝ }
+        requires { ⌜ (1 ≤ nodes) × (nodes ≤ maxNodes) × (length (written (concluded (viewOf self) (respond (viewOf self) (NCE nodes)))) ≤ length (now out)) ⌝ }
         ensures { λ r. ⌜ Does self (concluded (viewOf self) (respond (viewOf self) (NCE nodes))) (now (out .entry)) r (now (out .exit)) ⌝ }
     {
         if MAX_PASS <= self.pass {
             return self.refuse(NO_PASS_LEFT);
         }
-        let at = order::write_notice(out, 0, self.pass + 1, Notice::NotOk);
+        let at = wire_orders::write_notice(out, 0, self.pass + 1, Notice::NotOk);
         self.units = nodes - 1;
         let entries = image::new_entries();
         self.entries = entries;
@@ -99,7 +97,7 @@ impl RegistryImage {
         }
         let units = self.units as usize;
         let before = self.entries;
-        let end = telling::write_asks(out, 0, pass, Which::Silent, units, before);
+        let end = ring_tell::asks::write_asks(out, 0, pass, Which::Silent, units, before);
         let entries = changes::all_asked(units, before);
         self.entries = entries;
         let delay = CfgDelay(STOPPED);

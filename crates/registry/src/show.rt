@@ -3,28 +3,27 @@ ghost use mathlib.Core.Path.{_≡_};
 ghost use Prim.Native.Nat.{_≤_};
 ghost use lib.ListN.{length};
 ghost use Rattle.laws.specs.Lists.{select};
+ghost use Rattle.rules.specs.House.{maxEntries};
 ghost use Rattle.rules.specs.Picture.{isOpen, rowAt, nodes};
 ghost use Rattle.rules.specs.Listing.{listing, lookUp};
-ghost use Rattle.pairs.specs.View.{pairOf};
-ghost use Rattle.node.specs.View.{rowOf};
-ghost use Rattle.listing.specs.View.{flatOf};
-ghost use Rattle.lookup.specs.View.{lookupOf};
-ghost use Rattle.marks.specs.State.{stateNumber};
+ghost use Rattle.wire_pairs.specs.View.{pairOf};
+ghost use Rattle.row_entry.specs.View.{rowOf};
+ghost use Rattle.ring_listing.specs.View.{flatOf};
+ghost use Rattle.ring_lookup.specs.View.{lookupOf};
+ghost use Rattle.ring_state.specs.State.{stateNumber};
 ghost use Rattle.registry.specs.View.{viewOf};
 use super::image::RegistryImage;
-use entries::outlook;
-use listing::flat;
-use listing::flat::Listing;
-use lookup::Lookup;
-use marks::NOTOK;
-use marks::OFF;
-use marks::OK;
-use marks::RegistryState;
-use marks::STOPPED;
-use node::address::NodePosition;
-use node::entry::NodeEntry;
-
-pub const NOT_OK: u8 = 18;
+use numbers::NOT_OK;
+use ring_entries::outlook;
+use ring_listing::Listing;
+use ring_lookup::Lookup;
+use ring_state::NOTOK;
+use ring_state::OFF;
+use ring_state::OK;
+use ring_state::RegistryState;
+use ring_state::STOPPED;
+use row_entry::NodeEntry;
+use wire_address::NodePosition;
 
 impl RegistryImage {
     // The state: OFF, NOTOK or OK.
@@ -63,7 +62,7 @@ impl RegistryImage {
         if state.0 == OFF {
             return 0;
         }
-        node::entry::clamp(self.units as usize) + 1
+        row_entry::clamp(self.units as usize) + 1
     }
 
     // How many questions are open.
@@ -93,7 +92,7 @@ impl RegistryImage {
         if x == 0 {
             return NodeEntry::absent();
         }
-        if node::entry::clamp(self.units as usize) < x {
+        if row_entry::clamp(self.units as usize) < x {
             return NodeEntry::absent();
         }
         self.entries[x - 1]
@@ -101,10 +100,10 @@ impl RegistryImage {
 
     // The whole listing, by position and announced order.
     pub fn listing(self) -> Listing
-        ensures { λ r. ⌜ (r ≡ flatOf (listing (viewOf self))) × (length (listing (viewOf self)) ≤ 1008) ⌝ }
+        ensures { λ r. ⌜ (r ≡ flatOf (listing (viewOf self))) × (length (listing (viewOf self)) ≤ maxEntries) ⌝ }
     {
         let entries = self.entries;
-        flat::listing_of(self.units as usize, entries)
+        ring_listing::listing_of(self.units as usize, entries)
     }
 
     // Where a pair is listed; 18 where the state is not OK, 17 where it is listed nowhere.
@@ -112,9 +111,9 @@ impl RegistryImage {
         ensures { λ r. ⌜ lookupOf r ≡ lookUp (viewOf self) (pairOf block number) ⌝ }
     {
         let state = self.state;
-        if marks::is_ok(state) {
+        if ring_state::is_ok(state) {
             let entries = self.entries;
-            return lookup::find(self.units as usize, entries, block, number);
+            return ring_lookup::find(self.units as usize, entries, block, number);
         }
         Lookup::Refused(NOT_OK)
     }

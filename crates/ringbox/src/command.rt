@@ -1,9 +1,9 @@
 // The commands of a ring script.
-use arguments::ANY;
-use arguments::Argument;
-use arguments::UNDERSTOOD;
-use arguments::UNKNOWN_WORD;
-use script::words;
+use text_arguments::ANY;
+use text_arguments::Argument;
+use text_arguments::UNDERSTOOD;
+use text_arguments::UNKNOWN_WORD;
+use text_words::words;
 
 // The longest record that a line can hold, and the most order room, which is lent at the start.
 pub const MAX_RECORD: usize = 8192;

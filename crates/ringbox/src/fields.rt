@@ -1,8 +1,8 @@
 // Records and orders in hexadecimal, with a blank between their fields.
 ghost use Prim.Native.Nat.{_≤_};
-use input::MAX_LINE;
-use output::Output;
-use output::SPACE;
+use text_in::MAX_LINE;
+use text_out::Output;
+use text_out::SPACE;
 
 // Kinds whose records or orders have more fields than the pass.
 const ANSWER: u8 = 4;

@@ -7,18 +7,18 @@ mod show;
 
 ghost use Rattle.registry.specs.View.{viewOf};
 ghost use Rattle.registry.specs.Outcome.{Reached};
-use arguments::TOO_LONG;
 use command::Command;
 use command::MAX_RECORD;
 use command::MAX_ROOM;
-use input::CHUNK;
-use input::Input;
-use input::MAX_LINE;
-use output::Output;
-use output::SPACE;
 use registry::image::RegistryImage;
-use remarks::LineKind;
-use script::numbers::smaller;
+use text_answers::LineKind;
+use text_arguments::TOO_LONG;
+use text_in::CHUNK;
+use text_in::Input;
+use text_in::MAX_LINE;
+use text_out::Output;
+use text_out::SPACE;
+use text_words::numbers::smaller;
 
 // L of the picture at the start.
 const FIRST_SIZE: usize = 12;
@@ -56,7 +56,7 @@ fn fresh(bench: Bench, text: &mut [u8; SPACE], l: usize) -> Bench
     let number = answer.number();
     let room = bench.room;
     if number != 0 {
-        let refused = remarks::refusal(asked, text, number);
+        let refused = text_answers::refusal(asked, text, number);
         return Bench {
             picture,
             room,
@@ -107,7 +107,7 @@ fn recorded_lines(
     length: usize,
 ) -> Output {
     if number != 0 {
-        return remarks::refusal(output, text, number);
+        return text_answers::refusal(output, text, number);
     }
     let taken = output.line(text, b"= taken");
     let end = smaller(length, orders.len());
@@ -157,7 +157,10 @@ fn not_understood(bench: Bench, text: &mut [u8; SPACE], line: &[u8], reason: u8)
     ensures { λ r. ⌜ Reached (viewOf (r .picture)) ⌝ }
 {
     let output = bench.output;
-    with_output(bench, remarks::not_understood(output, text, line, reason))
+    with_output(
+        bench,
+        text_answers::not_understood(output, text, line, reason),
+    )
 }
 
 // A look-up in its normal form.
@@ -230,7 +233,7 @@ fn answer(
     requires { ⌜ Reached (viewOf (bench .picture)) ⌝ }
     ensures { λ r. ⌜ Reached (viewOf (r .picture)) ⌝ }
 {
-    let kind = remarks::kind_of(line);
+    let kind = text_answers::kind_of(line);
     match kind {
         LineKind::Remark => {
             let output = bench.output;

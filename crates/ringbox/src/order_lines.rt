@@ -2,8 +2,8 @@
 ghost use Prim.Native.Nat.{_≤_, _<_};
 ghost use lib.ListN.{length};
 use super::fields;
-use output::Output;
-use output::SPACE;
+use text_out::Output;
+use text_out::SPACE;
 
 // The kinds of orders.
 const ASK: u8 = 1;

@@ -1,20 +1,20 @@
 // What a picture shows: state, listing, rows, and where a pair is listed.
 use super::order_lines;
-use listing::flat::Listing;
-use listing::flat::MAX_LISTED;
-use lookup::Lookup;
-use marks::OFF;
-use marks::OK;
-use node::address::NodePosition;
-use node::entry::IGNORED;
-use node::entry::LISTED;
-use node::entry::NodeEntry;
-use node::entry::SETTING;
-use node::entry::SILENT;
-use output::Output;
-use output::SPACE;
-use pairs::Pairs;
 use registry::image::RegistryImage;
+use ring_listing::Listing;
+use ring_lookup::Lookup;
+use ring_state::OFF;
+use ring_state::OK;
+use row_entry::IGNORED;
+use row_entry::LISTED;
+use row_entry::NodeEntry;
+use row_entry::SETTING;
+use row_entry::SILENT;
+use sizes::MAX_LISTED;
+use text_out::Output;
+use text_out::SPACE;
+use wire_address::NodePosition;
+use wire_pairs::Pairs;
 
 fn state_name(output: Output, text: &mut [u8; SPACE], state: u8) -> Output {
     match state {
@@ -84,7 +84,7 @@ pub fn listing(output: Output, text: &mut [u8; SPACE], listing: Listing) -> Outp
 pub fn found(output: Output, text: &mut [u8; SPACE], found: Lookup) -> Output {
     let number = found.number();
     if number != 0 {
-        return remarks::refusal(output, text, number);
+        return text_answers::refusal(output, text, number);
     }
     let position = found.position();
     let address = found.address();

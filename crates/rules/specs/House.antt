@@ -1,5 +1,5 @@
 -- The sizes and limits of paper 01, each by a name. Those marked (house) there are the network owner's to choose.
-use Prim.Native.Nat.{ℕ}
+use Prim.Native.Nat.{ℕ, _-_, _*_}
 
 -- "a payload size L of 12 to 45 (house)"
 abbrev pub minSize : ℕ
@@ -12,9 +12,17 @@ maxSize = 45
 abbrev pub maxNodes : ℕ
 maxNodes = 64
 
+-- "positions 1 to N−1 are units and they alone have rows"
+abbrev pub maxUnits : ℕ
+maxUnits = maxNodes - 1
+
 -- "up to 16 pairs (FBlockID, InstID) (house)"
 abbrev pub maxPairs : ℕ
 maxPairs = 16
+
+-- "the whole listing of up to 1,008 block instances"
+abbrev pub maxEntries : ℕ
+maxEntries = maxUnits * maxPairs
 
 -- "order room below 512 bytes" is refused
 abbrev pub minRoom : ℕ

@@ -1,9 +1,9 @@
 // The commands of a telegram script.
-use arguments::ANY;
-use arguments::Argument;
-use arguments::UNDERSTOOD;
-use arguments::UNKNOWN_WORD;
-use script::words;
+use text_arguments::ANY;
+use text_arguments::Argument;
+use text_arguments::UNDERSTOOD;
+use text_arguments::UNKNOWN_WORD;
+use text_words::words;
 
 // The sizes of the buffers: payload, and the bytes of a telegram that a line can hold.
 pub const MAX_PAYLOAD: usize = 70000;

@@ -1,8 +1,8 @@
 // Telegrams and messages in hexadecimal.
 ghost use Prim.Native.Nat.{_≤_, _<_};
-use input::MAX_LINE;
-use output::Output;
-use output::SPACE;
+use text_in::MAX_LINE;
+use text_out::Output;
+use text_out::SPACE;
 
 // How many bytes of a message stand on a line.
 const WIDTH: usize = 32;

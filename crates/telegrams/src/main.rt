@@ -3,20 +3,20 @@ mod command;
 mod fields;
 mod help;
 
-use arguments::TOO_LONG;
 use command::Command;
 use command::MAX_BUFFER;
 use command::MAX_PAYLOAD;
 use command::MAX_TELEGRAM;
-use input::CHUNK;
-use input::Input;
-use input::MAX_LINE;
-use joining::JoinAnswer;
-use joining::Reassembly;
-use output::Output;
-use output::SPACE;
-use remarks::LineKind;
-use script::numbers::smaller;
+use tel_join_state::JoinAnswer;
+use tel_join_state::Reassembly;
+use text_answers::LineKind;
+use text_arguments::TOO_LONG;
+use text_in::CHUNK;
+use text_in::Input;
+use text_in::MAX_LINE;
+use text_out::Output;
+use text_out::SPACE;
+use text_words::numbers::smaller;
 
 // How many bytes the payload has, the join state, and what is written.
 struct Desk {
@@ -41,7 +41,10 @@ fn with_output(desk: Desk, output: Output) -> Desk {
 // A line that is no command.
 fn not_understood(desk: Desk, text: &mut [u8; SPACE], line: &[u8], reason: u8) -> Desk {
     let output = desk.output;
-    with_output(desk, remarks::not_understood(output, text, line, reason))
+    with_output(
+        desk,
+        text_answers::not_understood(output, text, line, reason),
+    )
 }
 
 // The first n of these bytes.
@@ -113,10 +116,10 @@ fn fill(desk: Desk, text: &mut [u8; SPACE], payload: &mut [u8], n: usize, seed: 
 
 // The count of a payload's telegrams, or the refusal.
 fn counted(output: Output, text: &mut [u8; SPACE], payload: &[u8], l: usize) -> Output {
-    let answer = counting::count(l, payload);
+    let answer = tel_count::count(l, payload);
     let number = answer.number();
     if number != 0 {
-        return remarks::refusal(output, text, number);
+        return text_answers::refusal(output, text, number);
     }
     let values = [answer.telegrams()];
     output.form(text, b"= count %d\n", &values)
@@ -138,10 +141,10 @@ fn telegram(
     number: usize,
     room: &mut [u8],
 ) -> Output {
-    let answer = segmentation::cut(l, msg_id, payload, number, room);
+    let answer = tel_cut::cut(l, msg_id, payload, number, room);
     let refused = answer.number();
     if refused != 0 {
-        return remarks::refusal(output, text, refused);
+        return text_answers::refusal(output, text, refused);
     }
     let length = smaller(answer.length(), room.len());
     let name = output.bytes(text, b"= telegram ");
@@ -205,7 +208,7 @@ fn cut_all(
     let values = [l, high(msg_id), low(msg_id)];
     let asked = output.form(text, b"cutall %d %w%w\n", &values);
     let next = counted(asked, text, payload, l);
-    let answer = counting::count(l, payload);
+    let answer = tel_count::count(l, payload);
     let telegrams = answer.telegrams();
     each(next, text, payload, l, msg_id, telegrams, room)
 }
@@ -249,12 +252,12 @@ fn join(desk: Desk, text: &mut [u8; SPACE], buffer: &mut [u8], l: usize, bytes: 
     let output = desk.output;
     let told = join_echo(output, text, l, buffer.len(), bytes);
     let joining = desk.joining;
-    let joined = reassembly::join(joining, l, buffer, bytes);
+    let joined = tel_join::join(joining, l, buffer, bytes);
     let answer = joined.answer;
     let next = joined.state;
     match answer {
         JoinAnswer::Refused(number) => {
-            let refused = remarks::refusal(told, text, number);
+            let refused = text_answers::refusal(told, text, number);
             Desk {
                 payload: desk.payload,
                 joining: next,
@@ -379,7 +382,7 @@ fn answer(
     room: &mut [u8],
     buffer: &mut [u8],
 ) -> Desk {
-    let kind = remarks::kind_of(line);
+    let kind = text_answers::kind_of(line);
     let output = desk.output;
     match kind {
         LineKind::Remark => with_output(desk, output.line(text, line)),

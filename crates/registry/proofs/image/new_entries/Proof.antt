@@ -1,6 +1,7 @@
 -- One entry, 63 times.
 use Rattle.laws.specs.Views.{firsts-replicate}
-use Rattle.node.specs.View.{rowOf, rowsOf}
+use Rattle.rules.specs.House.{maxUnits}
+use Rattle.row_entry.specs.View.{rowOf, rowsOf}
 use borrow.Author.Needs.{needs}
 use lib.ListN.{replicate}
 use mathlib.Core.Path.{_∙_, ap}
@@ -12,7 +13,7 @@ new-requires c κs = search needs
 
 returns : tie.Need-returns
 unfolding rowsOf
-returns c = λ k h. firsts-replicate rowOf k 63 (c .new .result) h ∙ ap (replicate k) (c .new .ensures)
+returns c = λ k h. firsts-replicate rowOf k maxUnits (c .new .result) h ∙ ap (replicate k) (c .new .ensures)
 
 pub new-entries-spec : {M : Type 1} → statement M
 new-entries-spec = tie.close (tie.spec new-requires returns)

@@ -1,6 +1,7 @@
 -- `listing` is safe, and its loop ends.
 use Prim.Native.Nat.{_-_}
 use borrow.Author.Needs.{needs}
+use Rattle.rules.specs.House.{maxEntries}
 use Rattle.ringbox.proofs.show.listing.Statement.{statement}
 use Rattle.ringbox.proofs.show.listing.Tie as tie
 
@@ -8,7 +9,7 @@ abbrev Inv-loop : tie.InvT-loop
 Inv-loop text₀ listing next₀ i₀ text next i = Unit {0}
 
 abbrev μ-loop : tie.MeasureT-loop
-μ-loop text₀ listing next₀ i₀ text next i = 1008 - i
+μ-loop text₀ listing next₀ i₀ text next i = maxEntries - i
 
 slice-aggregate-form : tie.Need-slice-aggregate-form Inv-loop μ-loop
 slice-aggregate-form c = search needs

@@ -1,7 +1,7 @@
 -- By the state's number.
 use Prim.Native.Nat.{ℕ}
-use Rattle.marks.proofs.States.{by-state}
-use Rattle.marks.specs.State.{stateNumber}
+use Rattle.ring_state.proofs.States.{by-state}
+use Rattle.ring_state.specs.State.{stateNumber}
 use Rattle.registry.specs.View.{viewOf}
 use borrow.Author.Tests.{ne-eqb}
 use lib.Dec.{eqb}

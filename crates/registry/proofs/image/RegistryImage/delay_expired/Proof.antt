@@ -3,7 +3,7 @@ use Prim.Native.Nat.{_+_, _≤_, ℕ}
 use Rattle.laws.specs.Buffers.{wrote-along}
 use Rattle.registry.proofs.Doing.{done, end-room, front-room, refuses}
 use Rattle.registry.proofs.Scanning.{delay-front, delays, no-delay, wrong-pass}
-use Rattle.marks.specs.State.{runs}
+use Rattle.ring_state.specs.State.{runs}
 use Rattle.registry.specs.View.{viewOf}
 use Rattle.rules.specs.Order.{encodeAll}
 use Rattle.rules.specs.Picture.{isSilent}

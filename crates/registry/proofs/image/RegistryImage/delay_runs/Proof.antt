@@ -1,5 +1,5 @@
 -- By the delay's number.
-use Rattle.marks.specs.State.{runs}
+use Rattle.ring_state.specs.State.{runs}
 use Rattle.registry.specs.View.{viewOf}
 use borrow.Author.Tests.{eq-eqb, ne-eqb}
 use mathlib.Core.Bool.{not}

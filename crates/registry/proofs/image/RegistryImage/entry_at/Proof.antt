@@ -1,5 +1,6 @@
 -- The tests in their order.
-use Rattle.node.proofs.Arrays.{rows-length}
+use Rattle.rules.specs.House.{maxUnits}
+use Rattle.row_entry.proofs.Arrays.{rows-length}
 use Rattle.registry.proofs.Places.{mapped-length, row-beyond, row-there, row-zero}
 use Rattle.registry.specs.View.{viewOf}
 use borrow.Author.Needs.{needs}
@@ -38,7 +39,7 @@ returns-2 c =
     let at-if2 = c .before in
     let at-clamp = at-if2 .before in
     let start = at-clamp .before .before .before in
-    let g = start .good .0 .1 .1 .1 .1 .1 .1 .1 .0 in let m : length (start .args .t1 .entries) ≡ 63 = search (mapped-length, g) in c .absent2 .ensures ∙ row-beyond (viewOf (start .args .t1) .rows) (start .args .position .0) (omega (arith, at-clamp .clamp .ensures, at-if2 .if2 .taken, rows-length (start .args .t1 .entries) m (start .args .t1 .units)))
+    let g = start .good .0 .1 .1 .1 .1 .1 .1 .1 .0 in let m : length (start .args .t1 .entries) ≡ maxUnits = search (mapped-length, g) in c .absent2 .ensures ∙ row-beyond (viewOf (start .args .t1) .rows) (start .args .position .0) (omega (arith, at-clamp .clamp .ensures, at-if2 .if2 .taken, rows-length (start .args .t1 .entries) m (start .args .t1 .units)))
 
 sub-result : tie.Need-sub-result
 sub-result c = search needs
@@ -58,7 +59,7 @@ returns-3 c =
     let at-clamp = at-if2 .before in
     let at-if1 = at-clamp .before in
     let start = at-if1 .before .before in
-    let g = start .good .0 .1 .1 .1 .1 .1 .1 .1 .0 in let m : length (start .args .t1 .entries) ≡ 63 = search (mapped-length, g) in row-there (start .args .t1) (start .args .position .0) (record { full = m; first = pos-of-ne-zero (at-if1 .if1 .left); last = omega (arith, at-clamp .clamp .ensures, at-if2 .if2 .left) }) _
+    let g = start .good .0 .1 .1 .1 .1 .1 .1 .1 .0 in let m : length (start .args .t1 .entries) ≡ maxUnits = search (mapped-length, g) in row-there (start .args .t1) (start .args .position .0) (record { full = m; first = pos-of-ne-zero (at-if1 .if1 .left); last = omega (arith, at-clamp .clamp .ensures, at-if2 .if2 .left) }) _
 
 pub entry-at-spec : {M : Type 1} → statement M
 entry-at-spec =

@@ -1,10 +1,10 @@
 -- What is told of the entries, then the ending.
-use Rattle.entries.specs.Tests.{countsFor, struck}
+use Rattle.ring_entries.specs.Tests.{countsFor, struck}
 use Rattle.registry.proofs.Doing.{done, end-room, front-room}
 use Rattle.registry.proofs.Places.{put-counted}
 use Rattle.registry.proofs.Telling.{told-rows}
-use Rattle.notes.specs.Told.{rowsTold}
-use Rattle.marks.specs.State.{runs, stateOf}
+use Rattle.ring_tell.specs.Told.{rowsTold}
+use Rattle.ring_state.specs.State.{runs, stateOf}
 use Rattle.registry.specs.View.{viewOf}
 use Rattle.rules.specs.Picture.{seatAt, withRows}
 use Rattle.rules.specs.Step.{changeRows, onCounted}

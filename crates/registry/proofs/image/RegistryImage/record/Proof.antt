@@ -1,15 +1,15 @@
 -- 1, then 2 to 4, then 5 to 8, then the event's own step.
 use Prim.Native.Nat.{ℕ, _≤_}
-use Rattle.announcement.specs.Hearing.{Hears, answered}
-use Rattle.node.specs.View.{rowsOf}
-use Rattle.node.specs.declared.address.LogicalNodeAddress.{LogicalNodeAddress}
-use Rattle.node.specs.declared.address.NodePosition.{NodePosition}
-use Rattle.pairs.specs.View.{pairsOf}
-use Rattle.marks.specs.State.{stateOf}
-use Rattle.records.specs.View.{eventOf}
-use Rattle.records.specs.declared.event.Event.{Event}
-use Rattle.records.specs.declared.event.Event.the-variants as events
-use Rattle.refusals.specs.Numbers.{placeIn, refusalOf, seatIn}
+use Rattle.ring_answer.specs.Hearing.{Hears, answered}
+use Rattle.row_entry.specs.View.{rowsOf}
+use Rattle.wire_address.specs.declared.LogicalNodeAddress.{LogicalNodeAddress}
+use Rattle.wire_address.specs.declared.NodePosition.{NodePosition}
+use Rattle.wire_pairs.specs.View.{pairsOf}
+use Rattle.ring_state.specs.State.{stateOf}
+use Rattle.wire_events.specs.View.{eventOf}
+use Rattle.wire_events.specs.declared.Event.{Event}
+use Rattle.wire_events.specs.declared.Event.the-variants as events
+use Rattle.ring_refusals.specs.Numbers.{placeIn, refusalOf, seatIn}
 use Rattle.registry.proofs.Doing.{refuses}
 use Rattle.registry.proofs.Places.{mapped-length}
 use Rattle.registry.proofs.Refusing.{answer-taken, late-at, next-place, none-late, none-taken, place-below, place-row, refused-late}
@@ -18,6 +18,7 @@ use Rattle.registry.specs.Outcome.{Does, Reached, Seat, WellFormed, repl
 use Rattle.registry.specs.View.{viewOf}
 use Rattle.registry.specs.declared.image.RegistryImage.{RegistryImage}
 use Rattle.registry.specs.declared.record.Recorded.{Recorded}
+use Rattle.rules.specs.House.{maxUnits}
 use Rattle.rules.specs.Picture.{Pair, Row, seatAt}
 use Rattle.rules.specs.Renumber.{finished}
 use Rattle.rules.specs.Run.{Outcome, concluded, step, written}
@@ -57,7 +58,7 @@ abbrev stepOf : tie.After-decode → Event → Outcome
 stepOf r f = concluded (viewOf (image r)) (respondTo (viewOf (image r)) (eventOf f (announced r)))
 
 module _ (r : tie.After-decode) where
-  full : length (image r .entries) ≡ 63
+  full : length (image r .entries) ≡ maxUnits
   full = let g = startOf r .good .0 .1 .1 .1 .1 .1 .1 .1 .0 in search (mapped-length, g)
 
   fits-at : {o : Outcome} → outcome r ≡ o → length (written o) ≤ length (lent r)

@@ -1,6 +1,6 @@
 -- What is told of the entry, the SET, then the ending.
-use Rattle.marks.specs.State.{runs, stateOf}
-use Rattle.numbering.specs.Marks.{renumberingOf}
+use Rattle.ring_state.specs.State.{runs, stateOf}
+use Rattle.row_renumber.specs.Marks.{renumberingOf}
 use Rattle.registry.proofs.Places.{put-entry}
 use Rattle.registry.proofs.Replying.{closing-room, replied, told-room}
 use Rattle.registry.specs.View.{viewOf}

@@ -1,8 +1,8 @@
 -- NOTOK, then the scan of the emptied entries.
-use Rattle.entries.specs.Tests.{countsFor, struck}
+use Rattle.ring_entries.specs.Tests.{countsFor, struck}
 use Rattle.registry.proofs.Places.{put-counted}
 use Rattle.registry.proofs.Scanning.{begins, first-room, notok-room, notok-wrote, second-room}
-use Rattle.marks.specs.State.{runs, stateOf}
+use Rattle.ring_state.specs.State.{runs, stateOf}
 use Rattle.registry.specs.View.{viewOf}
 use Rattle.rules.specs.Order.{NOTOK}
 use Rattle.rules.specs.Picture.{seatAt, withRows}

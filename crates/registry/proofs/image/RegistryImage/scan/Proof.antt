@@ -1,6 +1,6 @@
 -- ASKs, then the ending.
 use Rattle.registry.proofs.Scanning.{scan-room, scan-room-2, scans}
-use Rattle.marks.specs.State.{runs, stateOf}
+use Rattle.ring_state.specs.State.{runs, stateOf}
 use Rattle.registry.specs.View.{viewOf}
 use Rattle.rules.specs.Picture.{NotOk}
 use Rattle.rules.specs.Step.{scanned}

@@ -1,7 +1,7 @@
 -- No unit has an entry.
 use Rattle.laws.specs.Views.{firsts}
-use Rattle.node.specs.View.{rowsOf}
-use Rattle.marks.specs.State.{runs, stateOf}
+use Rattle.row_entry.specs.View.{rowsOf}
+use Rattle.ring_state.specs.State.{runs, stateOf}
 use Rattle.registry.specs.View.{viewOf}
 use borrow.Author.Needs.{needs}
 use mathlib.Core.Path.{refl}

@@ -1,2 +1,0 @@
-// Order records written into a lent buffer.
-pub mod order; // order.rt: one order written

@@ -1,0 +1,40 @@
+-- By the case.
+use Rattle.wire_pairs.specs.View.{pairsOf}
+use Rattle.row_entry.specs.View.{statusOf}
+use Rattle.row_renumber.specs.Marks.{renumberingOf}
+use Rattle.rules.specs.Step.{statusAfter}
+use borrow.Author.Needs.{needs}
+use mathlib.Core.Path.{_∙_, sym}
+use Rattle.ring_answer.proofs.hear.registered.Statement.{statement}
+use Rattle.ring_answer.proofs.hear.registered.Tie as tie
+
+enum-told : tie.Need-enum-told
+enum-told c = search needs
+
+keeping-requires : tie.Need-keeping-requires
+keeping-requires c κs = search needs
+
+enum-known-step : tie.Need-enum-known-step
+enum-known-step c = search needs
+
+keeping-requires-2 : tie.Need-keeping-requires-2
+keeping-requires-2 c κs = search needs
+
+returns : tie.Need-returns
+unfolding statusAfter statusOf
+returns c =
+    let at-enum-told = c .before in
+    let start = at-enum-told .before .before in
+    c .keeping .ensures ∙ (λ i. record { status = statusAfter (start .args .address .0) (pairsOf (start .args .kept)) (renumberingOf (sym (at-enum-told .enum-told .given .1) i)); bad = start .args .bad; silences = 0 })
+
+returns-2 : tie.Need-returns-2
+unfolding statusAfter statusOf
+returns-2 c =
+    let at-step = c .before .before in
+    let start = at-step .before .before in
+    c .keeping2 .ensures ∙ (λ i. record { status = statusAfter (start .args .address .0) (pairsOf (start .args .kept)) (renumberingOf (sym (at-step .step .given .1) i)); bad = start .args .bad; silences = 0 })
+
+pub registered-spec : {M : Type 1} → statement M
+registered-spec =
+    tie.close
+    (tie.spec enum-told keeping-requires enum-known-step keeping-requires-2 returns returns-2)

@@ -1,0 +1,57 @@
+-- The others are the entries with none in the seat.
+use Prim.Native.Nat.{_<_}
+use Rattle.ring_answer.proofs.Seats.{pairs-beside}
+use Rattle.wire_pairs.specs.View.{pairsOf}
+use Rattle.row_entry.specs.View.{rowsOf}
+use Rattle.row_entry.proofs.Arrays.{rows-length}
+use Rattle.row_judge.specs.Marks.{judgedOf}
+use Rattle.rules.specs.House.{maxUnits}
+use Rattle.rules.specs.Renumber.{freeNumber, renumber}
+use lib.ListN.{length}
+use mathlib.Core.Path.{_≡_, _∙_}
+use native.Mathlib.Omega.{arith}
+use borrow.Author.Needs.{needs}
+use Rattle.ring_answer.proofs.hear.renumbering.Statement.{statement}
+use Rattle.ring_answer.proofs.hear.renumbering.Tie as tie
+
+absent-requires : tie.Need-absent-requires
+absent-requires c κs = search needs
+
+mul-others : tie.Need-mul-others
+mul-others c = search needs
+
+array-set-from-others : tie.Need-array-set-from-others
+array-set-from-others c = search needs
+
+place-requires : tie.Need-place-requires
+place-requires c κs = search needs
+
+tries-requires : tie.Need-tries-requires
+tries-requires c κs = search needs
+
+renumber-from-requires : tie.Need-renumber-from-requires
+renumber-from-requires c κs = search needs
+
+returns : tie.Need-returns
+returns c =
+    let at-tries = c .before in
+    let at-place = at-tries .before in
+    let at-absent = at-place .before in
+    let start = at-absent .before in
+    let full : length (start .args .entries) ≡ maxUnits = search (needs, start .good) in
+    let l : start .args .seat < length (rowsOf (start .args .count) (start .args .entries)) = omega (arith, start .pre, rows-length (start .args .entries) full (start .args .count)) in
+    c .renumber-from .ensures
+    ∙ (λ t. renumber (freeNumber (pairs-beside (start .args .count) (start .args .entries) (start .args .seat) l (at-absent .absent .result) (at-absent .absent .ensures) t) (pairsOf (start .args .announced)))
+    (at-place .place .ensures t) (at-tries .tries .ensures t) (judgedOf (pairsOf (start .args .announced)) (start .args .good)))
+
+pub renumbering-spec : {M : Type 1} → statement M
+renumbering-spec =
+    tie.close
+    (tie.spec
+    absent-requires
+    mul-others
+    array-set-from-others
+    place-requires
+    tries-requires
+    renumber-from-requires
+    returns)

@@ -1,0 +1,93 @@
+-- What is left to change decides.
+use Prim.Native.Nat.{_-_, _≤_}
+use Rattle.ring_entries.proofs.Loops.{change-end, change-on}
+use Rattle.laws.specs.Views.{mapFrom}
+use Rattle.row_entry.specs.View.{rowsOf}
+use Rattle.rules.specs.House.{maxUnits}
+use Rattle.rules.specs.Step.{asked}
+use borrow.Author.Needs.{needs}
+use lib.ListN.{length, length-set}
+use mathlib.Core.List.{map}
+use mathlib.Core.Path.{_≡_, refl}
+use native.Mathlib.Omega.{arith}
+use Rattle.ring_entries.proofs.changes.all_asked.Statement.{statement}
+use Rattle.ring_entries.proofs.changes.all_asked.Tie as tie
+
+abbrev Inv-loop : tie.InvT-loop
+Inv-loop count n next₀ i₀ next i = (i ≤ n) × (length next ≡ maxUnits) × (mapFrom asked i (rowsOf count next) ≡ map asked (rowsOf count next₀))
+
+abbrev μ-loop : tie.MeasureT-loop
+μ-loop count n next₀ i₀ next i = n - i
+
+clamp-requires : tie.Need-clamp-requires Inv-loop μ-loop
+clamp-requires c κs = search needs
+
+loop-holds : tie.Need-loop-holds Inv-loop μ-loop
+unfolding mapFrom
+loop-holds c = (omega arith, search needs, refl)
+
+mul-entry : tie.Need-mul-entry Inv-loop μ-loop
+mul-entry c =
+    let at-clamp = c .before .before in
+    omega (arith, at-clamp .clamp .ensures)
+
+array-copy-out-entry : tie.Need-array-copy-out-entry Inv-loop μ-loop
+array-copy-out-entry c =
+    let at-clamp = c .before .before in
+    omega (arith, at-clamp .clamp .ensures, c .loop-test .taken)
+
+asked-requires : tie.Need-asked-requires Inv-loop μ-loop
+asked-requires c κs = search needs
+
+mul-next : tie.Need-mul-next Inv-loop μ-loop
+mul-next c =
+    let at-clamp = c .before .before .before .before in
+    omega (arith, at-clamp .clamp .ensures)
+
+array-set-from-next : tie.Need-array-set-from-next Inv-loop μ-loop
+array-set-from-next c =
+    let at-loop-test = c .before .before in
+    let at-clamp = at-loop-test .before .before in
+    omega (arith, at-clamp .clamp .ensures, at-loop-test .loop-test .taken)
+
+add-i : tie.Need-add-i Inv-loop μ-loop
+add-i c =
+    let at-loop-test = c .before .before in
+    let at-clamp = at-loop-test .before .before in
+    omega (arith, at-clamp .clamp .ensures, at-loop-test .loop-test .taken)
+
+loop-less : tie.Need-loop-less Inv-loop μ-loop
+loop-less c = search needs
+
+loop-again : tie.Need-loop-again Inv-loop μ-loop
+loop-again c =
+    let at-loop-test = c .before .before in
+    let at-loop = at-loop-test .before in
+    let at-clamp = at-loop .before in
+    let start = at-clamp .before in
+    let w = at-loop .loop .inv in (omega arith, simp length-set (w .1), change-on (start .args .count) (at-loop .loop .i) (at-loop .loop .next) (w .1) asked _ (c .asked .result) (omega (arith, at-clamp .clamp .ensures, at-loop-test .loop-test .taken)) (c .asked .ensures) (w .2))
+
+returns : tie.Need-returns Inv-loop μ-loop
+returns c =
+    let at-loop = c .before in
+    let at-clamp = at-loop .before in
+    let start = at-clamp .before in
+    let w = at-loop .loop .inv in change-end (start .args .count) (at-loop .loop .i) (at-loop .loop .next) (w .1) asked (omega (arith, at-clamp .clamp .ensures, c .loop-test .left)) (w .2)
+
+pub all-asked-spec : {M : Type 1} → statement M
+all-asked-spec =
+    tie.close
+    (tie.spec
+    Inv-loop
+    μ-loop
+    clamp-requires
+    loop-holds
+    mul-entry
+    array-copy-out-entry
+    asked-requires
+    mul-next
+    array-set-from-next
+    add-i
+    loop-less
+    loop-again
+    returns)

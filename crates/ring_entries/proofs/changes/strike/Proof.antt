@@ -1,0 +1,30 @@
+-- By the limit.
+use Rattle.ring_entries.specs.Tests.{struck}
+use Rattle.rules.specs.Step.{ignored}
+use borrow.Author.Needs.{needs}
+use mathlib.Core.Path.{_∙_, ap}
+use Rattle.ring_entries.proofs.changes.strike.Statement.{statement}
+use Rattle.ring_entries.proofs.changes.strike.Tie as tie
+
+counted-requires : tie.Need-counted-requires
+counted-requires c κs = search needs
+
+ignored-requires : tie.Need-ignored-requires
+ignored-requires c κs = search needs
+
+returns : tie.Need-returns
+unfolding struck
+returns c =
+    let at-if1 = c .before in
+    let at-counted = at-if1 .before in
+    let start = at-counted .before in
+    simp (at-if1 .if1 .taken) (c .ignored .ensures ∙ ap (ignored (start .args .address .0)) (at-counted .counted .ensures))
+
+returns-2 : tie.Need-returns-2
+unfolding struck
+returns-2 c =
+    let at-counted = c .before in
+    simp (c .if1 .left) (at-counted .counted .ensures)
+
+pub strike-spec : {M : Type 1} → statement M
+strike-spec = tie.close (tie.spec counted-requires ignored-requires returns returns-2)

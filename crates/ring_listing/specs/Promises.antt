@@ -1,0 +1,12 @@
+-- What follows for whoever reads a flat listing place by place.
+use Prim.Native.Nat.{_≤_}
+use mathlib.Core.Path.{_≡_}
+use mathlib.Core.List.{List}
+use lib.ListN.{length}
+use Rattle.rules.specs.House.{maxEntries}
+use Rattle.rules.specs.Listing.{Entry}
+use Rattle.ring_listing.specs.View.{flatOf, entriesIn}
+
+pub record Promises : Type 0 where
+  -- a flat listing of up to 1,008 entries holds these entries, in their order
+  pub holds : (es : List Entry) → length es ≤ maxEntries → entriesIn (flatOf es) ≡ es

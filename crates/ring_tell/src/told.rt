@@ -1,0 +1,111 @@
+// What is told of entries that have changed, and the SET of a renumbering.
+ghost use mathlib.Core.List.{_++_};
+ghost use Prim.Native.Nat.{_+_, _≤_};
+ghost use lib.ListN.{length};
+ghost use Rattle.laws.specs.Buffers.{Wrote};
+ghost use Rattle.rules.specs.Order.{encodeAll};
+ghost use Rattle.rules.specs.Step.{setOrder};
+ghost use Rattle.row_entry.specs.View.{rowOf, rowsOf};
+ghost use Rattle.row_renumber.specs.Marks.{renumberingOf};
+ghost use Rattle.ring_state.specs.State.{stateOf};
+ghost use Rattle.ring_tell.specs.Told.{rowTold, rowsTold};
+use ring_state::RegistryState;
+use row_entry::NodeEntry;
+use row_renumber::renumber::Renumbering;
+use sizes::MAX_UNITS;
+use wire_address::LogicalNodeAddress;
+use wire_address::NodePosition;
+use wire_orders::Delta;
+
+// INVALID and NEW for one entry, where the state is OK.
+fn tell_entry(
+    out: &mut [u8],
+    pass: u32,
+    state: RegistryState,
+    size: u8,
+    before: NodeEntry,
+    after: NodeEntry,
+) -> usize
+    requires { ⌜ (3 ≤ size) × (length (encodeAll pass (rowTold (stateOf (state .0)) size (rowOf before) (rowOf after))) ≤ length (now out)) ⌝ }
+    ensures { λ r. ⌜ Wrote (now (out .entry)) 0 (encodeAll pass (rowTold (stateOf (state .0)) size (rowOf before) (rowOf after))) r (now (out .exit)) ⌝ }
+{
+    if ring_state::is_ok(state) {
+        let old = before.pairs();
+        let new = after.pairs();
+        let at = wire_orders::write_delta(out, 0, pass, Delta::Invalid, size, old.missing(new));
+        return wire_orders::write_delta(out, at, pass, Delta::New, size, new.missing(old));
+    }
+    0
+}
+
+// INVALID and NEW for the first `count` entries, where the state is OK.
+pub fn tell_entries(
+    out: &mut [u8],
+    pass: u32,
+    state: RegistryState,
+    size: u8,
+    count: usize,
+    before: [NodeEntry; MAX_UNITS],
+    after: [NodeEntry; MAX_UNITS],
+) -> usize
+    requires { ⌜ (3 ≤ size) × (length (encodeAll pass (rowsTold (stateOf (state .0)) size (rowsOf count before) (rowsOf count after))) ≤ length (now out)) ⌝ }
+    ensures { λ r. ⌜ Wrote (now (out .entry)) 0 (encodeAll pass (rowsTold (stateOf (state .0)) size (rowsOf count before) (rowsOf count after))) r (now (out .exit)) ⌝ }
+{
+    if ring_state::is_ok(state) {
+        let at = super::changes::write_changes(
+            out,
+            0,
+            pass,
+            Delta::Invalid,
+            size,
+            count,
+            before,
+            after,
+        );
+        return super::changes::write_changes(out, at, pass, Delta::New, size, count, before, after);
+    }
+    0
+}
+
+// The SET of a renumbering, to the address that is kept.
+fn write_renumbering(
+    out: &mut [u8],
+    at: usize,
+    pass: u32,
+    position: NodePosition,
+    address: LogicalNodeAddress,
+    step: Renumbering,
+) -> usize
+    requires { ⌜ at + length (encodeAll pass (setOrder (position .0) (address .0) (renumberingOf step))) ≤ length (now out) ⌝ }
+    ensures { λ r. ⌜ Wrote (now (out .entry)) at (encodeAll pass (setOrder (position .0) (address .0) (renumberingOf step))) r (now (out .exit)) ⌝ }
+{
+    match step {
+        Renumbering::Finished => at,
+        Renumbering::Renumbers {
+            place: _,
+            tries: _,
+            block,
+            old,
+            new,
+        } => wire_orders::write_set(out, at, pass, position, address, block, old, new),
+    }
+}
+
+// What is told where one entry becomes another: INVALID and NEW, and the SET of a renumbering to the address that is kept.
+pub fn tell_reply(
+    out: &mut [u8],
+    pass: u32,
+    state: RegistryState,
+    size: u8,
+    before: NodeEntry,
+    after: NodeEntry,
+    position: NodePosition,
+    address: LogicalNodeAddress,
+    step: Renumbering,
+) -> usize
+    requires { ⌜ (3 ≤ size) × (length (encodeAll pass (rowTold (stateOf (state .0)) size (rowOf before) (rowOf after) ++ setOrder (position .0) (address .0) (renumberingOf step))) ≤ length (now out)) ⌝ }
+    ensures { λ r. ⌜ Wrote (now (out .entry)) 0 (encodeAll pass (rowTold (stateOf (state .0)) size (rowOf before) (rowOf after) ++ setOrder (position .0) (address .0) (renumberingOf step))) r (now (out .exit)) ⌝ }
+{
+    let told = tell_entry(out, pass, state, size, before, after);
+    write_renumbering(out, told, pass, position, address, step)
+}

@@ -1,0 +1,30 @@
+-- A SILENT entry keeps its counts; any other is as it was.
+use Rattle.row_entry.specs.View.{rowOf}
+use Rattle.rules.specs.Picture.{withStatus}
+use Rattle.rules.specs.Step.{asked}
+use borrow.Author.Needs.{needs}
+use mathlib.Core.Path.{_∙_, sym}
+use Rattle.row_entry.proofs.NodeEntry.asked.Statement.{statement}
+use Rattle.row_entry.proofs.NodeEntry.asked.Tie as tie
+
+is-silent-requires : tie.Need-is-silent-requires
+is-silent-requires c κs = search needs
+
+waiting-requires : tie.Need-waiting-requires
+waiting-requires c κs = search needs
+
+returns : tie.Need-returns
+unfolding asked withStatus rowOf
+returns c =
+    let at-if1 = c .before in
+    let at-is-silent = at-if1 .before in
+    simp (sym (at-is-silent .is-silent .ensures) ∙ at-if1 .if1 .taken) (c .waiting .ensures)
+
+returns-2 : tie.Need-returns-2
+unfolding asked
+returns-2 c =
+    let at-is-silent = c .before in
+    simp (sym (at-is-silent .is-silent .ensures) ∙ c .if1 .left)
+
+pub asked-spec : {M : Type 1} → statement M
+asked-spec = tie.close (tie.spec is-silent-requires waiting-requires returns returns-2)

@@ -1,0 +1,25 @@
+-- As many pairs as there are, at most 16.
+use Prim.Native.Nat.{ℕ}
+use Rattle.wire_pairs.proofs.Arrays.{pairs-min}
+use Rattle.wire_pairs.specs.View.{pairsFrom, pairsOf}
+use Rattle.row_entry.specs.View.{rowOf, statusOf}
+use Rattle.rules.specs.Cases.{silences}
+use borrow.Author.Needs.{needs}
+use mathlib.Core.Path.{_∙_, ap}
+use Rattle.row_entry.proofs.NodeEntry.keeping.Statement.{statement}
+use Rattle.row_entry.proofs.NodeEntry.keeping.Tie as tie
+
+len-requires : tie.Need-len-requires
+len-requires c κs = search needs
+
+cast-t11 : tie.Need-cast-t11
+cast-t11 c = search needs
+
+returns : tie.Need-returns
+unfolding rowOf pairsOf
+returns c =
+    let start = c .before .before .before in
+    let e = ap (λ (k : ℕ). pairsFrom k (start .args .pairs .blocks) (start .args .pairs .numbers)) (c .len .ensures) ∙ pairs-min (start .args .pairs .blocks) (start .args .pairs .numbers) (search needs) (search needs) (start .args .pairs .count) in (λ i. record { status = statusOf (start .args .status) (start .args .address .0) (e i) (start .args .place) (start .args .tries); bad = start .args .bad; silences = 0 })
+
+pub keeping-spec : {M : Type 1} → statement M
+keeping-spec = tie.close (tie.spec len-requires cast-t11 returns)

@@ -1,0 +1,77 @@
+-- A line's kind by its first byte, and the parts of what is said.
+use Prim.Native.Nat.{ℕ, _-_, _≤_, _<_}
+use mathlib.Core.Path.{_≡_, refl, sym, _∙_, ap}
+use mathlib.Core.Bool.{Bool, true, false, cond, _||_}
+use mathlib.Core.List.{List, [], _∷_, _++_}
+use native.Mathlib.Omega.{arith}
+use borrow.Author.Tests.{lt-ltb, le-ltb, eq-eqb, ne-eqb, eqb-false}
+use lib.Dec.{eqb}
+use lib.ListN.{length, take}
+use Rattle.laws.specs.Bools.{cond-true, cond-false, or-false, or-true-left, or-true-right}
+use Rattle.text_out.specs.Spelling.{lined, decimalOf, valueOf, filledFrom, filled}
+use Rattle.text_out.specs.Texts.{codes}
+use Rattle.text_numbers.specs.Wording.{whyOf, recordMeans, telegramMeans}
+use Rattle.text_answers.specs.Remarks.{kindOf, toldOf, shownOf, spacedOf, commentOf, notUnderstood, meaning, refusalOf}
+use Rattle.text_answers.specs.declared.LineKind.the-variants.{Remark, EarlierAnswer, Offer}
+
+-- a line without a byte, and one with a first byte: a remark, an earlier answer, an offer
+pub kind-empty : (xs : List ℕ) → length xs ≡ 0 → Remark ≡ kindOf xs
+unfolding kindOf
+kind-empty [] h = refl
+kind-empty (x ∷ xs) h = absurd (omega (arith, h))
+
+module _ {x : ℕ} {xs rest : List ℕ} (e : xs ≡ x ∷ rest) where
+  pub kind-remark : x ≡ 35 → Remark ≡ kindOf xs
+  unfolding kindOf
+  kind-remark h = sym (ap kindOf e ∙ cond-true _ _ (eq-eqb x 35 h))
+
+  module _ (n : x ≡ 35 → ⊥) where
+    kind-else : {b : Bool} → (eqb x 61 || (eqb x 60 || eqb x 33)) ≡ b → kindOf xs ≡ cond b EarlierAnswer Offer
+    unfolding kindOf
+    kind-else h = ap kindOf e ∙ cond-false _ _ (ne-eqb x 35 n) ∙ ap (λ (b : Bool). cond b EarlierAnswer Offer) h
+
+    pub kind-refused : x ≡ 33 → EarlierAnswer ≡ kindOf xs
+    kind-refused h = sym (kind-else (or-true-right (eqb x 61) (eqb x 60 || eqb x 33) (or-true-right (eqb x 60) (eqb x 33) (eq-eqb x 33 h))))
+
+    pub kind-answered : 60 ≤ x → x ≤ 61 → EarlierAnswer ≡ kindOf xs
+    kind-answered l m = sym (kind-else (go (eqb x 61) refl))
+      where
+        go : (b : Bool) → eqb x 61 ≡ b → (b || (eqb x 60 || eqb x 33)) ≡ true
+        go true k = refl
+        go false k = or-true-left (eqb x 60) (eqb x 33) (eq-eqb x 60 (omega (arith, l, m, eqb-false x 61 k)))
+
+    pub kind-offer : (x ≡ 33 → ⊥) → (x ≡ 60 → ⊥) → (x ≡ 61 → ⊥) → Offer ≡ kindOf xs
+    kind-offer a b c = sym (kind-else (or-false _ _ (ne-eqb x 61 c) (or-false _ _ (ne-eqb x 60 b) (ne-eqb x 33 a))))
+
+-- a blank before bytes
+pub spaced-none : (xs : List ℕ) → length xs ≡ 0 → 10 ∷ [] ≡ lined (spacedOf xs)
+unfolding spacedOf
+spaced-none [] h = refl
+spaced-none (x ∷ xs) h = absurd (omega (arith, h))
+
+pub spaced-some : (xs : List ℕ) → (length xs ≡ 0 → ⊥) → (32 ∷ []) ++ lined xs ≡ lined (spacedOf xs)
+unfolding spacedOf
+spaced-some [] h = absurd (h refl)
+spaced-some (x ∷ xs) h = refl
+
+-- the parts of a comment
+pub comment-is : (line : List ℕ) (reason : ℕ) {told end : ℕ} → told ≡ toldOf line reason → end ≡ shownOf line told
+    → (35 ∷ []) ++ lined (spacedOf (take (end - 0) line)) ++ codes "# not understood: " ++ lined (whyOf told) ≡ notUnderstood line reason
+unfolding commentOf
+comment-is line reason {told} {end} e f =
+    let all : end - 0 ≡ shownOf line told = omega arith in
+    ap (λ (n : ℕ). (35 ∷ []) ++ lined (spacedOf (take n line)) ++ codes "# not understood: " ++ lined (whyOf told)) all ∙ ap (commentOf line) e
+
+-- the parts of a refusal
+module _ (n : ℕ) where
+  refusal-is : {words : List ℕ} → words ≡ meaning n → filled (codes "! %d  ") (n ∷ []) ++ lined words ≡ refusalOf n
+  unfolding refusalOf filledFrom valueOf
+  refusal-is e = ap (λ (l : List ℕ). codes "! " ++ decimalOf n ++ codes "  " ++ lined l) e
+
+  pub refusal-record : n < 10 → filled (codes "! %d  ") (n ∷ []) ++ lined (recordMeans n) ≡ refusalOf n
+  unfolding meaning
+  refusal-record h = refusal-is (sym (cond-true _ _ (lt-ltb n 10 h)))
+
+  pub refusal-telegram : 10 ≤ n → filled (codes "! %d  ") (n ∷ []) ++ lined (telegramMeans n) ≡ refusalOf n
+  unfolding meaning
+  refusal-telegram h = refusal-is (sym (cond-false _ _ (le-ltb n 10 h)))

@@ -1,0 +1,144 @@
+-- The groups that are left are still to be stored, and the reason is among them.
+use Prim.Native.Nat.{_-_}
+use mathlib.Core.Path.{sym, _∙_}
+use lib.ListN.{length}
+use Rattle.laws.specs.Buffers.{owes-length}
+use Rattle.text_arguments.specs.Reading.{bytesAt}
+use Rattle.text_arguments.proofs.Taking.{behind-wrong}
+use Rattle.text_arguments.proofs.Groups.{Left, left-start, left-on, left-done, left-refused, group-some, stored-none}
+use borrow.Author.Needs.{needs}
+use native.Mathlib.Omega.{arith}
+use Rattle.text_arguments.proofs.Argument.bytes.Statement.{statement}
+use Rattle.text_arguments.proofs.Argument.bytes.Tie as tie
+
+abbrev Inv-loop : tie.InvT-loop
+Inv-loop line bytes₀ start₀ count₀ bytes start count = Left line start₀ bytes₀ start count bytes
+
+abbrev μ-loop : tie.MeasureT-loop
+μ-loop line bytes₀ start₀ count₀ bytes start count = length line - start
+
+returns : tie.Need-returns Inv-loop μ-loop
+unfolding bytesAt
+returns c = (sym (behind-wrong _ _ (c .if1 .taken)), stored-none _ _ _ (c .if1 .taken))
+
+word-start-requires : tie.Need-word-start-requires Inv-loop μ-loop
+word-start-requires c κs = search needs
+
+loop-holds : tie.Need-loop-holds Inv-loop μ-loop
+loop-holds c = left-start _ _ (c .word-start .ensures .0) _
+
+word-end-requires : tie.Need-word-end-requires Inv-loop μ-loop
+word-end-requires c κs = search needs
+
+sub-group-reason : tie.Need-sub-group-reason Inv-loop μ-loop
+sub-group-reason c = search needs
+
+part-group-reason-start : tie.Need-part-group-reason-start Inv-loop μ-loop
+part-group-reason-start c = search needs
+
+part-group-reason-end : tie.Need-part-group-reason-end Inv-loop μ-loop
+part-group-reason-end c = search needs
+
+group-reason-requires : tie.Need-group-reason-requires Inv-loop μ-loop
+group-reason-requires c κs = search needs
+
+wrong-requires : tie.Need-wrong-requires Inv-loop μ-loop
+wrong-requires c κs = search needs
+
+same-length : tie.Need-same-length Inv-loop μ-loop
+same-length c = owes-length (c .before .before .before .before .before .before .loop .inv .owes)
+
+returns-2 : tie.Need-returns-2 Inv-loop μ-loop
+returns-2 c =
+    let at-reason = c .before .before in
+    let at-word-end = at-reason .before .before in
+    let at-loop-test = at-word-end .before in
+    let at-loop = at-loop-test .before in
+    let at-word-start = at-loop .before in
+    let at-if = at-word-start .before in
+    let start = at-if .before .before .before .before in
+    let refused = left-refused (start .args .line .now) (start .args .self) (at-if .if1 .left) (at-word-start .word-start .ensures .0) (at-loop .loop .inv) (at-loop-test .loop-test .taken) (at-word-end .word-end .ensures .0) (at-reason .group-reason .ensures) (c .before .if2 .taken) in
+    (c .wrong .ensures ∙ refused .0, refused .1)
+
+sub-store : tie.Need-sub-store Inv-loop μ-loop
+sub-store c = search needs
+
+part-store-start : tie.Need-part-store-start Inv-loop μ-loop
+part-store-start c = search needs
+
+part-store-end : tie.Need-part-store-end Inv-loop μ-loop
+part-store-end c = search needs
+
+store-requires : tie.Need-store-requires Inv-loop μ-loop
+store-requires c κs = search needs
+
+word-start-requires-2 : tie.Need-word-start-requires-2 Inv-loop μ-loop
+word-start-requires-2 c κs = search needs
+
+loop-less : tie.Need-loop-less Inv-loop μ-loop
+loop-less c =
+    let at-reason = c .before .before .before .before .before .before .before in
+    let at-word-end = at-reason .before .before in
+    let at-loop-test = at-word-end .before in
+    let at-loop = at-loop-test .before in
+    omega (arith, group-some (at-loop .before .before .before .before .before .before .args .line .now) (at-loop .loop .inv) (at-loop-test .loop-test .taken) (at-word-end .word-end .ensures .0), c .word-start2 .ensures .1)
+
+loop-again : tie.Need-loop-again Inv-loop μ-loop
+loop-again c =
+    let at-reason = c .before .before .before .before .before .before .before in
+    let at-word-end = at-reason .before .before in
+    let at-loop-test = at-word-end .before in
+    let at-loop = at-loop-test .before in
+    left-on _ (at-loop .loop .inv) (at-loop-test .loop-test .taken) (at-word-end .word-end .ensures .0) (sym (at-reason .group-reason .ensures) ∙ c .before .before .before .before .before .before .if2 .left)
+    (c .before .before .before .store .ensures) (c .word-start2 .ensures .0)
+
+same-length-2 : tie.Need-same-length-2 Inv-loop μ-loop
+same-length-2 c = owes-length (c .before .before .loop .inv .owes)
+
+returns-3 : tie.Need-returns-3 Inv-loop μ-loop
+returns-3 c =
+    let at-loop = c .before .before in
+    let at-word-start = at-loop .before in
+    let at-if = at-word-start .before in
+    let start = at-if .before .before .before .before in
+    left-done (start .args .line .now) (start .args .self) (at-if .if1 .left) (at-word-start .word-start .ensures .0) (at-loop .loop .inv) (c .before .loop-test .left) (omega (arith, owes-length (at-loop .loop .inv .owes)))
+
+same-length-3 : tie.Need-same-length-3 Inv-loop μ-loop
+same-length-3 c = owes-length (c .before .before .loop .inv .owes)
+
+returns-4 : tie.Need-returns-4 Inv-loop μ-loop
+returns-4 c =
+    let at-loop = c .before .before in
+    let at-word-start = at-loop .before in
+    let at-if = at-word-start .before in
+    let start = at-if .before .before .before .before in
+    left-done (start .args .line .now) (start .args .self) (at-if .if1 .left) (at-word-start .word-start .ensures .0) (at-loop .loop .inv) (c .before .loop-test .left) (omega (arith, owes-length (at-loop .loop .inv .owes)))
+
+pub bytes-spec : {M : Type 1} → statement M
+bytes-spec =
+    tie.close
+    (tie.spec
+    Inv-loop
+    μ-loop
+    returns
+    word-start-requires
+    loop-holds
+    word-end-requires
+    sub-group-reason
+    part-group-reason-start
+    part-group-reason-end
+    group-reason-requires
+    wrong-requires
+    same-length
+    returns-2
+    sub-store
+    part-store-start
+    part-store-end
+    store-requires
+    word-start-requires-2
+    loop-less
+    loop-again
+    same-length-2
+    returns-3
+    same-length-3
+    returns-4)

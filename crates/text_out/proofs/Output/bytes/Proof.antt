@@ -1,0 +1,54 @@
+-- The bytes from `i` on are left to put.
+use Prim.Native.Nat.{_-_}
+use borrow.Author.Needs.{needs}
+use mathlib.Core.List.{[], _∷_}
+use lib.ListN.{length, drop, getD, drop-of-length-le}
+use Rattle.laws.specs.Runs.{drop-here}
+use Rattle.text_out.specs.Putting.{Owes, owes-start, owes-on, owes-end}
+use Rattle.text_out.proofs.Output.bytes.Statement.{statement}
+use Rattle.text_out.proofs.Output.bytes.Tie as tie
+
+abbrev Inv-loop : tie.InvT-loop
+Inv-loop text₀ bytes next₀ i₀ text next i = Owes next₀ text₀ bytes next text (drop i bytes)
+
+abbrev μ-loop : tie.MeasureT-loop
+μ-loop text₀ bytes next₀ i₀ text next i = length bytes - i
+
+loop-holds : tie.Need-loop-holds Inv-loop μ-loop
+loop-holds c = owes-start _ _ _
+
+shared-slice-read-byte : tie.Need-shared-slice-read-byte Inv-loop μ-loop
+shared-slice-read-byte c = search needs
+
+byte-requires : tie.Need-byte-requires Inv-loop μ-loop
+byte-requires c κs = search needs
+
+add-i : tie.Need-add-i Inv-loop μ-loop
+add-i c = search needs
+
+loop-less : tie.Need-loop-less Inv-loop μ-loop
+loop-less c = search needs
+
+loop-again : tie.Need-loop-again Inv-loop μ-loop
+loop-again c =
+    let at-loop = c .before .before .before .before in
+    let bytes = at-loop .before .before .args .bytes .now in
+    let i = at-loop .loop .i in
+    owes-on (getD bytes i 0 ∷ []) (drop-here bytes i 0 (c .before .before .before .loop-test .taken)) (c .byte .ensures) (at-loop .loop .inv)
+
+returns : tie.Need-returns Inv-loop μ-loop
+returns c = owes-end (drop-of-length-le _ (c .loop-test .left)) (c .before .loop .inv)
+
+pub bytes-spec : {M : Type 1} → statement M
+bytes-spec =
+    tie.close
+    (tie.spec
+    Inv-loop
+    μ-loop
+    loop-holds
+    shared-slice-read-byte
+    byte-requires
+    add-i
+    loop-less
+    loop-again
+    returns)

@@ -1,0 +1,95 @@
+-- At every turn the pairs read so far and those that still stand there are all pairs.
+use Rattle.laws.specs.Views.{firsts}
+use Rattle.wire_pairs.proofs.Arrays.{pairs-push}
+use Rattle.wire_pairs.specs.View.{pairsFrom, pairsOf}
+use Prim.Native.Nat.{ℕ, _*_, _+_, _-_, _≤_}
+use Rattle.wire_events.proofs.Readings.{read-end, read-on}
+use Rattle.rules.specs.House.{maxPairs}
+use Rattle.rules.specs.Event.{readPairs}
+use borrow.Author.Needs.{needs}
+use lib.ListN.{drop, length, length-set}
+use mathlib.Core.List.{_++_}
+use mathlib.Core.Path.{_≡_, _∙_, ap, refl}
+use native.Mathlib.Omega.{arith}
+use Rattle.wire_events.proofs.read_pairs.Statement.{statement}
+use Rattle.wire_events.proofs.read_pairs.Tie as tie
+
+abbrev Inv-loop : tie.InvT-loop
+Inv-loop bytes count pairs₀ i₀ pairs i = (i ≤ count) × (length (pairs .blocks) ≡ maxPairs) × (length (pairs .numbers) ≡ maxPairs) × (pairsFrom i (pairs .blocks) (pairs .numbers) ++ readPairs (drop (11 + 2 * i) bytes) ≡ readPairs (drop 11 bytes))
+
+abbrev μ-loop : tie.MeasureT-loop
+μ-loop bytes count pairs₀ i₀ pairs i = count - i
+
+none-requires : tie.Need-none-requires Inv-loop μ-loop
+none-requires c κs = search needs
+
+loop-holds : tie.Need-loop-holds Inv-loop μ-loop
+unfolding pairsFrom firsts
+loop-holds c = (omega arith, search needs, search needs, refl)
+
+mul-at : tie.Need-mul-at Inv-loop μ-loop
+mul-at c = search needs
+
+add-at : tie.Need-add-at Inv-loop μ-loop
+add-at c = search needs
+
+shared-slice-read-pairs : tie.Need-shared-slice-read-pairs Inv-loop μ-loop
+shared-slice-read-pairs c = search needs
+
+element-write-pairs : tie.Need-element-write-pairs Inv-loop μ-loop
+element-write-pairs c = search needs
+
+add-pairs : tie.Need-add-pairs Inv-loop μ-loop
+add-pairs c = search needs
+
+shared-slice-read-pairs-2 : tie.Need-shared-slice-read-pairs-2 Inv-loop μ-loop
+shared-slice-read-pairs-2 c = search needs
+
+element-write-pairs-2 : tie.Need-element-write-pairs-2 Inv-loop μ-loop
+element-write-pairs-2 c = search needs
+
+add-i : tie.Need-add-i Inv-loop μ-loop
+add-i c = search needs
+
+loop-less : tie.Need-loop-less Inv-loop μ-loop
+loop-less c = search needs
+
+loop-again : tie.Need-loop-again Inv-loop μ-loop
+loop-again c =
+    let at-loop = c .before .before .before in
+    let start = at-loop .before .before .before in
+    let w = at-loop .loop .inv in
+    let p = at-loop .loop .pairs in
+    let i = at-loop .loop .i in
+    (omega arith, simp length-set (w .1), simp length-set (w .2), read-on (pairsFrom i (p .blocks) (p .numbers)) _ (start .args .bytes .now) (11 + 2 * i) (11 + 2 * (i + 1)) (omega arith) (omega arith) (pairs-push (p .blocks) (p .numbers) (w .1) (w .2) i _ _ (omega arith)) (w .3))
+
+returns : tie.Need-returns Inv-loop μ-loop
+unfolding pairsOf
+returns c =
+    let at-loop = c .before in
+    let start = at-loop .before .before .before in
+    let w = at-loop .loop .inv in
+    let p = at-loop .loop .pairs in
+    let e : start .args .count ≡ at-loop .loop .i = omega arith in
+    ap (λ (k : ℕ). pairsFrom k (p .blocks) (p .numbers)) e
+    ∙ read-end (pairsFrom (at-loop .loop .i) (p .blocks) (p .numbers)) (start .args .bytes .now) (11 + 2 * at-loop .loop .i) (omega arith) (w .3)
+
+pub read-pairs-spec : {M : Type 1} → statement M
+read-pairs-spec =
+    tie.close
+    (tie.spec
+    Inv-loop
+    μ-loop
+    none-requires
+    loop-holds
+    mul-at
+    add-at
+    shared-slice-read-pairs
+    element-write-pairs
+    add-pairs
+    shared-slice-read-pairs-2
+    element-write-pairs-2
+    add-i
+    loop-less
+    loop-again
+    returns)

@@ -15,6 +15,7 @@ use numbers::NO_PASS_LEFT;
 use numbers::NOT_ASKED;
 use numbers::WRONG_PASS;
 use ring_entries::changes;
+use ring_entries::changes::Change;
 use ring_state::CfgDelay;
 use ring_state::NOTOK;
 use ring_state::RegistryState;
@@ -98,7 +99,7 @@ impl RegistryImage {
         let units = self.units as usize;
         let before = self.entries;
         let end = ring_tell::asks::write_asks(out, 0, pass, Which::Silent, units, before);
-        let entries = changes::all_asked(units, before);
+        let entries = changes::all_changed(units, before, Change::Asked);
         self.entries = entries;
         let delay = CfgDelay(STOPPED);
         self.delay = delay;

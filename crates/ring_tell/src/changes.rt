@@ -29,7 +29,7 @@ fn changes(delta: Delta, before: NodeEntry, after: NodeEntry) -> Pairs
 }
 
 // INVALID or NEW for one entry.
-fn write_change(
+pub(crate) fn write_change(
     out: &mut [u8],
     at: usize,
     pass: u32,

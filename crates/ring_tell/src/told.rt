@@ -9,6 +9,7 @@ ghost use Rattle.row_entry.specs.View.{rowOf, rowsOf};
 ghost use Rattle.row_renumber.specs.Marks.{renumberingOf};
 ghost use Rattle.ring_state.specs.State.{stateOf};
 ghost use Rattle.ring_tell.specs.Told.{rowTold, rowsTold};
+use super::changes;
 use ring_state::RegistryState;
 use row_entry::NodeEntry;
 use row_renumber::renumber::Renumbering;
@@ -30,10 +31,8 @@ fn tell_entry(
     ensures { λ r. ⌜ Wrote (now (out .entry)) 0 (encodeAll pass (rowTold (stateOf (state .0)) size (rowOf before) (rowOf after))) r (now (out .exit)) ⌝ }
 {
     if ring_state::is_ok(state) {
-        let old = before.pairs();
-        let new = after.pairs();
-        let at = wire_orders::write_delta(out, 0, pass, Delta::Invalid, size, old.missing(new));
-        return wire_orders::write_delta(out, at, pass, Delta::New, size, new.missing(old));
+        let at = changes::write_change(out, 0, pass, Delta::Invalid, size, before, after);
+        return changes::write_change(out, at, pass, Delta::New, size, before, after);
     }
     0
 }
@@ -52,17 +51,8 @@ pub fn tell_entries(
     ensures { λ r. ⌜ Wrote (now (out .entry)) 0 (encodeAll pass (rowsTold (stateOf (state .0)) size (rowsOf count before) (rowsOf count after))) r (now (out .exit)) ⌝ }
 {
     if ring_state::is_ok(state) {
-        let at = super::changes::write_changes(
-            out,
-            0,
-            pass,
-            Delta::Invalid,
-            size,
-            count,
-            before,
-            after,
-        );
-        return super::changes::write_changes(out, at, pass, Delta::New, size, count, before, after);
+        let at = changes::write_changes(out, 0, pass, Delta::Invalid, size, count, before, after);
+        return changes::write_changes(out, at, pass, Delta::New, size, count, before, after);
     }
     0
 }

@@ -51,7 +51,8 @@ pub extern "C" fn lathepetal_record(
     out: &mut [u8],
 ) -> Recorded
     requires { ⌜ HandedOut picture ⌝ }
-    ensures { λ r. ⌜ Does picture (step (viewOf picture) (now (bytes .entry)) (length (now (out .entry)))) (now (out .entry)) r (now (out .exit)) × HandedOut (r .picture) ⌝ }
+    ensures { λ r. ⌜ Does picture (step (viewOf picture) (now (bytes .entry)) (length (now (out .entry)))) (now (out .entry)) r (now (out .exit))
+        × HandedOut (r .picture) ⌝ }
 {
     picture.record(bytes, out)
 }
@@ -67,7 +68,9 @@ pub extern "C" fn lathepetal_listing(picture: RegistryImage) -> Listing
 // Where a pair is listed; 18 where the state is not OK, 17 where it is listed nowhere.
 #[no_mangle]
 pub extern "C" fn lathepetal_look_up(picture: RegistryImage, block: u8, number: u8) -> LookupOutcome
-    ensures { λ r. ⌜ (r .number ≡ lookupNumber (lookUp (viewOf picture) (pairOf block number))) × (r .position ≡ lookupPosition (lookUp (viewOf picture) (pairOf block number))) × (r .address ≡ lookupAddress (lookUp (viewOf picture) (pairOf block number))) ⌝ }
+    ensures { λ r. ⌜ (r .number ≡ lookupNumber (lookUp (viewOf picture) (pairOf block number)))
+        × (r .position ≡ lookupPosition (lookUp (viewOf picture) (pairOf block number)))
+        × (r .address ≡ lookupAddress (lookUp (viewOf picture) (pairOf block number))) ⌝ }
 {
     let found = picture.look_up(block, number);
     let position = found.position();

@@ -32,8 +32,10 @@ impl RegistryImage {
         next: NodeEntry,
         step: Renumbering,
     ) -> Recorded
-        requires { ⌜ Seat self (position .0) × (3 ≤ self .size) × (length (written (replyOutcome (viewOf self) (position .0) (address .0) (rowOf next) (renumberingOf step))) ≤ length (now out)) ⌝ }
-        ensures { λ r. ⌜ Does self (replyOutcome (viewOf self) (position .0) (address .0) (rowOf next) (renumberingOf step)) (now (out .entry)) r (now (out .exit)) ⌝ }
+        requires { ⌜ Seat self (position .0) × (3 ≤ self .size)
+            × (length (written (replyOutcome (viewOf self) (position .0) (address .0) (rowOf next) (renumberingOf step))) ≤ length (now out)) ⌝ }
+        ensures { λ r. ⌜ Does self (replyOutcome (viewOf self) (position .0) (address .0) (rowOf next) (renumberingOf step))
+            (now (out .entry)) r (now (out .exit)) ⌝ }
     {
         let i = position.0 as usize - 1;
         let entry = self.entries[i];
@@ -61,7 +63,8 @@ impl RegistryImage {
         address: LogicalNodeAddress,
         verdict: Verdict,
     ) -> Recorded
-        requires { ⌜ Seat self (position .0) × (3 ≤ self .size) × (length (written (ignoreOutcome (verdictOf verdict) (viewOf self) (position .0) (address .0))) ≤ length (now out)) ⌝ }
+        requires { ⌜ Seat self (position .0) × (3 ≤ self .size)
+            × (length (written (ignoreOutcome (verdictOf verdict) (viewOf self) (position .0) (address .0))) ≤ length (now out)) ⌝ }
         ensures { λ r. ⌜ Does self (ignoreOutcome (verdictOf verdict) (viewOf self) (position .0) (address .0)) (now (out .entry)) r (now (out .exit)) ⌝ }
     {
         let i = position.0 as usize - 1;
@@ -90,7 +93,8 @@ impl RegistryImage {
         address: LogicalNodeAddress,
         verdict: Verdict,
     ) -> Recorded
-        requires { ⌜ Seat self (position .0) × (self .pass < maxPass) × (length (written (restartOutcome (verdictOf verdict) (viewOf self) (position .0) (address .0))) ≤ length (now out)) ⌝ }
+        requires { ⌜ Seat self (position .0) × (self .pass < maxPass)
+            × (length (written (restartOutcome (verdictOf verdict) (viewOf self) (position .0) (address .0))) ≤ length (now out)) ⌝ }
         ensures { λ r. ⌜ Does self (restartOutcome (verdictOf verdict) (viewOf self) (position .0) (address .0)) (now (out .entry)) r (now (out .exit)) ⌝ }
     {
         let i = position.0 as usize - 1;
@@ -111,7 +115,8 @@ impl RegistryImage {
         address: LogicalNodeAddress,
         verdict: Verdict,
     ) -> Recorded
-        requires { ⌜ Seat self (position .0) × (3 ≤ self .size) × (length (written (conflictOutcome (verdictOf verdict) (viewOf self) (position .0) (address .0))) ≤ length (now out)) ⌝ }
+        requires { ⌜ Seat self (position .0) × (3 ≤ self .size)
+            × (length (written (conflictOutcome (verdictOf verdict) (viewOf self) (position .0) (address .0))) ≤ length (now out)) ⌝ }
         ensures { λ r. ⌜ Does self (conflictOutcome (verdictOf verdict) (viewOf self) (position .0) (address .0)) (now (out .entry)) r (now (out .exit)) ⌝ }
     {
         let i = position.0 as usize - 1;

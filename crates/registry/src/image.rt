@@ -5,6 +5,7 @@ ghost use mathlib.Core.List.{[]};
 ghost use Rattle.rules.specs.Picture.{Picture, Off, fresh};
 ghost use Rattle.registry.specs.View.{viewOf, AllNew, makeNumberOf, makeAnswer};
 ghost use Rattle.registry.specs.Outcome.{HandedOut};
+use numbers::DONE;
 use numbers::ILLEGAL_SIZE;
 use ring_state::CfgDelay;
 use ring_state::OFF;
@@ -46,7 +47,7 @@ impl MakeAnswer {
     {
         match self {
             MakeAnswer::Refused(number) => number,
-            MakeAnswer::Made => 0,
+            MakeAnswer::Made => DONE,
         }
     }
 }

@@ -5,6 +5,7 @@ ghost use Rattle.rules.specs.Run.{step};
 ghost use Rattle.registry.specs.View.{viewOf};
 ghost use Rattle.registry.specs.Outcome.{Does, HandedOut};
 use super::image::RegistryImage;
+use numbers::DONE;
 use numbers::ORDER_ROOM_TOO_SHORT;
 use numbers::RECORD_MALFORMED;
 use ring_answer::hear;
@@ -37,7 +38,8 @@ impl RegistryImage {
     // Takes one record, and writes its orders from the start of `out`; or 1 to 9, which change nothing.
     pub fn record(self, bytes: &[u8], out: &mut [u8]) -> Recorded
         requires { ⌜ HandedOut self ⌝ }
-        ensures { λ r. ⌜ Does self (step (viewOf self) (now (bytes .entry)) (length (now (out .entry)))) (now (out .entry)) r (now (out .exit)) × HandedOut (r .picture) ⌝ }
+        ensures { λ r. ⌜ Does self (step (viewOf self) (now (bytes .entry)) (length (now (out .entry)))) (now (out .entry)) r (now (out .exit))
+            × HandedOut (r .picture) ⌝ }
     {
         if out.len() < MIN_ROOM {
             return self.refuse(ORDER_ROOM_TOO_SHORT);
@@ -46,13 +48,13 @@ impl RegistryImage {
         let event = read.event;
         let state = self.state;
         let number = ring_refusals::refusal(state, event);
-        if number != 0 {
+        if number != DONE {
             return self.refuse(number);
         }
         let seat = ring_refusals::seat_of(event);
         let entry = self.entries[seat];
         let late = ring_refusals::reply_refusal(state, self.pass, self.units, entry, event);
-        if late != 0 {
+        if late != DONE {
             return self.refuse(late);
         }
         match event {

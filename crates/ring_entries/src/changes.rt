@@ -86,7 +86,8 @@ pub fn all_counted(
     address: LogicalNodeAddress,
 ) -> [NodeEntry; MAX_UNITS]
     requires { ⌜ seat < min count maxUnits ⌝ }
-    ensures { λ r. ⌜ rowsOf count r ≡ onCounted (countsFor (verdictOf verdict) (address .0)) (struck limit (address .0)) (seatAt (rowsOf count entries) (suc seat)) ⌝ }
+    ensures { λ r. ⌜ rowsOf count r ≡ onCounted (countsFor (verdictOf verdict) (address .0)) (struck limit (address .0))
+        (seatAt (rowsOf count entries) (suc seat)) ⌝ }
 {
     let mut next = all_changed(
         count,

@@ -9,6 +9,7 @@ ghost use Rattle.registry.specs.Outcome.{HandedOut};
 use command::Command;
 use command::MAX_RECORD;
 use command::MAX_ROOM;
+use numbers::DONE;
 use registry::image::RegistryImage;
 use text_answers::LineKind;
 use text_arguments::TOO_LONG;
@@ -54,7 +55,7 @@ fn fresh(bench: Bench, text: &mut [u8; SPACE], l: usize) -> Bench
     let picture = made.picture;
     let number = answer.number();
     let room = bench.room;
-    if number != 0 {
+    if number != DONE {
         let refused = text_answers::refusal(asked, text, number);
         return Bench {
             picture,
@@ -105,7 +106,7 @@ fn recorded_lines(
     number: u8,
     length: usize,
 ) -> Output {
-    if number != 0 {
+    if number != DONE {
         return text_answers::refusal(output, text, number);
     }
     let taken = output.line(text, b"= taken");

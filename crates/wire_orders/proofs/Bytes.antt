@@ -107,7 +107,7 @@ module _ (bs ns : List ℕ) (h : length bs ≡ maxPairs) (k : length ns ≡ maxP
   unfolding collect pairBytes pairOf
   pairs-on c i to l m =
       let f : to - i ≡ suc (to - (i + 1)) = omega arith in
-      rw f (ap (λ (ps : List Pair). collect pairBytes (take (suc (to - (i + 1))) ps)) (pairs-here bs ns h k c i (omega arith)))
+      rw f (ap (λ (ps : List Pair). collect pairBytes (take (suc (to - (i + 1))) ps)) (pairs-here _ bs ns h k c i (omega arith)))
 
 pub pairs-end : (ps : List Pair) (i to : ℕ) → to ≤ i → collect pairBytes (take (to - i) (drop i ps)) ≡ []
 unfolding collect

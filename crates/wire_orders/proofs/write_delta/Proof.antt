@@ -34,7 +34,7 @@ unfolding pairsOf
 loop-holds c =
     let start = c .before .before in
     let s = start .args .pairs in
-    (omega arith, refl, pairs-length (s .blocks) (s .numbers) (search needs) (search needs) (s .count) ∙ sym (c .len .ensures), owes-start _ _ _)
+    (omega arith, refl, pairs-length _ (s .blocks) (s .numbers) (search needs) (search needs) (s .count) ∙ sym (c .len .ensures), owes-start _ _ _)
 
 sub-least : tie.Need-sub-least Inv-loop μ-loop
 sub-least c = search needs

@@ -1,5 +1,6 @@
 -- The head, the count, and the pairs.
 use Rattle.wire_pairs.specs.View.{pairsOf}
+use Rattle.rules.specs.House.{maxPairs}
 use Rattle.wire_pairs.proofs.Arrays.{pairs-length}
 use Rattle.wire_orders.proofs.Bytes.{delta-length, head-end, part-length, wrote-delta}
 use borrow.Author.Needs.{needs}
@@ -53,7 +54,7 @@ returns c =
     let start = at-kind-of .before .before in
     let s = start .args .pairs in
     let p = start .good .1 .1 .1 .1 .0 .1 .1 .1 in
-    let l = pairs-length (s .blocks) (s .numbers) (search needs) (search needs) (s .count) in
+    let l = pairs-length maxPairs (s .blocks) (s .numbers) (search needs) (search needs) (s .count) in
     wrote-delta (start .args .pass) (start .args .n) (start .args .delta) (take (start .args .n) (drop (start .args .from) (pairsOf (start .args .pairs)))) (at-kind-of .kind-of .ensures) (sym (part-length (pairsOf s) (start .args .from) (start .args .n) (omega arith))) (at-write-head .write-head .ensures) (at-write-pairs .write-pairs .ensures)
 
 pub write-part-spec : {M : Type 1} → statement M

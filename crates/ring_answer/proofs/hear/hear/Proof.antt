@@ -142,7 +142,7 @@ module _ (g : tie.After-good-pairs) where
       let blocks : length (ann .blocks) ≡ maxPairs = search (needs, b) in
       let n = from .before .good .1 .1 .1 .1 .1 .0 .1 .1 .1 .1 in
       let numbers : length (ann .numbers) ≡ maxPairs = search (needs, n) in
-      pairs-length (ann .blocks) (ann .numbers) blocks numbers (ann .count)
+      pairs-length _ (ann .blocks) (ann .numbers) blocks numbers (ann .count)
 
   few : length (announced from) ≤ maxPairs
   few = omega (arith, ann-length)
@@ -157,7 +157,7 @@ module _ (g : tie.After-good-pairs) where
       let blocks : length (kept .blocks) ≡ maxPairs = search (needs, b) in
       let n = g .good-pairs .ok .1 .1 .1 .1 in
       let numbers : length (kept .numbers) ≡ maxPairs = search (needs, n) in
-      pairs-length (kept .blocks) (kept .numbers) blocks numbers (kept .count)
+      pairs-length _ (kept .blocks) (kept .numbers) blocks numbers (kept .count)
 
   fine : {h : Heard} → (h .conflict ≡ false) × Keeps taken (address from) (announced from) h → Hears taken (address from) (announced from) h
   fine =

@@ -102,6 +102,7 @@ pairs-size (a ∷ rest) = let e = pairs-size rest in omega arith
 pub delta-length : (pass : ℕ) (d : Delta) (ps : List Pair) → length (encode pass (deltaOf d ps)) ≡ listSize (length ps)
 delta-length pass d ps = omega (arith, order-length pass (deltaOf d ps), ap length (delta-body d ps), pairs-size ps)
 
+-- the first n of those from i on
 take-drop : (i n : ℕ) (ps : List Pair) → take n (drop i ps) ≡ drop i (take (i + n) ps)
 take-drop zero n ps = let e : 0 + n ≡ n = omega arith in rw e refl
 take-drop (suc i) n [] = let e : suc i + n ≡ suc (i + n) = omega arith in rw e (take-nil n)
@@ -118,7 +119,7 @@ module _ (bs ns : List ℕ) where
   unfolding collect
   pairs-end i to h = ap (collect pairBytes) (first-past bs ns to i (omega arith))
 
-  -- a part of the first c pairs is that part of all
+  -- a part has as many pairs as it is asked for, and is the same of all pairs and of the first c
   pub part-length : (from n : ℕ) → from + n ≤ min (length bs) (length ns) → length (part from n bs ns) ≡ n
   part-length from n h = omega (arith, length-drop from (pairsFrom (from + n) bs ns), first-length bs ns (from + n))
 

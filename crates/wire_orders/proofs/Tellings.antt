@@ -94,6 +94,7 @@ module _ (pass : ℕ) where
 -- pairs of two arrays: n of those held, from i on, as many as fit or all that are left, are one order
 module _ (pass : ℕ) (d : Delta) (size : ℕ) (bs ns : List ℕ) (c held i n : ℕ) (s : 3 ≤ size) (g : held ≡ min c (min (length bs) (length ns))) (h : i < held)
     (e : n ≡ min ((size - 1) / 2) (held - i)) where
+  -- the pairs, how many they are, and the part that the order lists
   abbrev pairs : List Pair
   pairs = pairsFrom c bs ns
 
@@ -103,9 +104,11 @@ module _ (pass : ℕ) (d : Delta) (size : ℕ) (bs ns : List ℕ) (c held i n : 
   same : take n (drop i pairs) ≡ part i n bs ns
   same = part-same bs ns c i n (omega arith)
 
+  -- how long the order is
   size-of : length (encode pass (deltaOf d (take n (drop i pairs)))) ≡ listSize n
   size-of = delta-length pass d (take n (drop i pairs)) ∙ ap listSize (ap length same ∙ part-length bs ns i n (omega arith))
 
+  -- room for it, and the pairs behind it still owed
   pub part-room : {b f : List ℕ} {at j l : ℕ} {whole : List ℕ} → Owes b at whole j f (encodeAll pass (tell (deltaOf d) size (drop i pairs)))
       → at + length whole ≤ l → j + listSize n ≤ l
   part-room {j = j} {l = l} w k = subst (λ (m : ℕ). j + m ≤ l) size-of (tell-room pass (deltaOf d) size n i pairs s (rw all h) (rw all e) w k)

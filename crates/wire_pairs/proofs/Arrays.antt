@@ -21,9 +21,11 @@ zip-short [] ns = omega arith
 zip-short (b ∷ bs) [] = omega arith
 zip-short (b ∷ bs) (n ∷ ns) = let e = zip-short bs ns in omega arith
 
+-- as many as both have
 pub zip-length : (n : ℕ) (bs ns : List ℕ) → length bs ≡ n → length ns ≡ n → length (zipPairs bs ns) ≡ n
 zip-length n bs ns h k = omega (arith, zip-short bs ns)
 
+-- the pair at a place, and a store to both
 pub zip-at : (i : ℕ) (bs ns : List ℕ) (d : Pair) → i < length bs → i < length ns → getD (zipPairs bs ns) i d ≡ pairOf (getD bs i 0) (getD ns i 0)
 unfolding zipPairs
 zip-at i [] ns d h k = absurd (not-suc-le-zero h)

@@ -121,7 +121,7 @@ module _ (g : tie.After-good-pairs) where
   ann-length =
       let blocks : length (ann .blocks) ≡ maxPairs = search (needs, startOf from .good) in
       let numbers : length (ann .numbers) ≡ maxPairs = search (needs, startOf from .good) in
-      pairs-length (ann .blocks) (ann .numbers) blocks numbers (ann .count)
+      pairs-length _ (ann .blocks) (ann .numbers) blocks numbers (ann .count)
 
   few : length (announced from) ≤ maxPairs
   few = omega (arith, ann-length)
@@ -136,7 +136,7 @@ module _ (g : tie.After-good-pairs) where
       let blocks : length (kept .blocks) ≡ maxPairs = search (needs, b) in
       let n = g .good-pairs .ok .1 .1 .1 .1 in
       let numbers : length (kept .numbers) ≡ maxPairs = search (needs, n) in
-      pairs-length (kept .blocks) (kept .numbers) blocks numbers (kept .count)
+      pairs-length _ (kept .blocks) (kept .numbers) blocks numbers (kept .count)
 
   none-set : length (pairsOf kept) ≡ length (announced from) → finished ≡ renumberingFor (taken from) (announced from)
   none-set = set-none (taken from) (announced from) few (g .before .judge .result) (from .before .before .survey-of .result .held) (held-by from) (g .before .judge .ensures) (g .good-pairs .ensures)

@@ -3,9 +3,10 @@
 use reference::generate::Random;
 
 use crate::boxes::{RingBox, ShownRow};
-use crate::ring::{Player, Session, Step, MAX_ROOM};
+use crate::ring::{Player, Session, Step};
 use crate::script::{Difference, Found};
 use lathepetal::{IGNORED, LISTED, MAX_PAIRS, MAX_SIZE, MIN_SIZE, OFF, OK, SETTING, WAITING};
+use reference::sizes::BENCH_ROOM as MAX_ROOM;
 
 const START: u8 = 1;
 const NCE: u8 = 2;

@@ -4,8 +4,10 @@ use reference::generate::Random;
 
 use crate::boxes::TelegramBox;
 use crate::script::{must, Difference, Found};
-use crate::telegrams::{explain, fill, Given, Player, Step, MAX_FILL, MAX_ROOM};
+use crate::telegrams::{explain, Given, Player, Step};
 use lathepetal::{MAX_PAYLOAD, MAX_SIZE, MIN_SIZE};
+use reference::player::fill;
+use reference::sizes::{BENCH_PAYLOAD as MAX_FILL, BENCH_PAYLOAD as MAX_ROOM};
 
 /// What was played, for the end of the run.
 #[derive(Default)]

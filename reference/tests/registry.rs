@@ -1,7 +1,8 @@
 //! Holds the registry to facts that no single scene shows: the bound on replies, refusals, the tables it keeps.
 
 use reference::generate::Random;
-use reference::registry::{Entry, Pair, Ring, State, Status, MAX_LISTING};
+use reference::registry::{Entry, Pair, Ring, State, Status};
+use reference::sizes::MAX_LISTED;
 
 fn event(kind: u8, pass: u32, x: u8) -> Vec<u8> {
     [&[0x4D, 0x45, kind][..], &pass.to_be_bytes(), &[x]].concat()
@@ -186,7 +187,7 @@ fn the_greatest_listing() {
         ring.record(&record, &mut [0; 512]).expect("the answer is taken");
     }
     let blank = Entry { position: 0, address: 0, block: 0, number: 0 };
-    let mut entries = [blank; MAX_LISTING];
+    let mut entries = [blank; MAX_LISTED];
     assert_eq!(ring.listing_into(&mut entries), 1008);
     assert_eq!(ring.listing(), entries);
     assert_eq!(ring.look_up(0x4F, 16), Ok((63, 0x013F)));

@@ -165,7 +165,7 @@ fn a_refusal() {
 
 #[test]
 fn a_listing() {
-    is_short(Ringbox::new(), &ring_fault::<LISTS_BEHIND_THE_COUNT>(), ">", 3);
+    is_short(Ringbox::new(), &ring_fault::<LISTS_BEHIND_THE_COUNT>(), ">", 4);
 }
 
 #[test]
@@ -177,7 +177,7 @@ fn the_last_pass() {
 
 #[test]
 fn a_message() {
-    is_short(Telegrams::new(), &telegram_fault::<DROPS_THE_LAST_BYTE>(), "join", 3);
+    is_short(Telegrams::new(), &telegram_fault::<DROPS_THE_LAST_BYTE>(), "join", 4);
 }
 
 #[test]

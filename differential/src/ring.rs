@@ -3,6 +3,7 @@
 use crate::boxes::{ReferenceRing, RingBox, Shown};
 use crate::minimize::{minimize, Simpler};
 use crate::script::{differ, differ_at, must, must_at, Difference, Found};
+use reference::registry::Ring;
 use reference::sizes::{BENCH_ROOM, MAX_NODES};
 use reference::wire::{ANSWER, ANSWER_HEAD, COUNT, DELAY, KIND, NCE, NONE, PASS, RECORD_HEAD, RECORD_MARK, START, X};
 
@@ -117,6 +118,11 @@ impl<P: RingBox> Player<P> {
     /// A pattern made from random words.
     pub fn pattern(mut word: impl FnMut() -> u64) -> Vec<u8> {
         (0..2 * AREA / 8).flat_map(|_| word().to_le_bytes()).collect()
+    }
+
+    /// The reference's ring.
+    pub fn ring(&self) -> &Ring {
+        &self.reference.0
     }
 
     /// What the reference's picture says.

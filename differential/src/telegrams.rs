@@ -97,7 +97,7 @@ fn hex(bytes: &[u8]) -> String {
 pub enum Given {
     Nothing,
     Telegrams(usize),
-    Telegram(Vec<u8>),
+    Telegram,
     Open,
     /// The length of a message, which stands at the start of the join buffer.
     Message(usize),
@@ -172,7 +172,7 @@ impl<P: TelegramBox> Player<P> {
         if refusal != 0 {
             return Ok(Given::Refused(refusal));
         }
-        Ok(Given::Telegram(rooms[0][start..written].to_vec()))
+        Ok(Given::Telegram)
     }
 
     fn join(&mut self, l: usize, room: usize, telegram: &[u8]) -> Result<Given, Difference> {

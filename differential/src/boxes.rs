@@ -15,6 +15,9 @@ const _: () = {
     assert!(lathepetal::MAX_TELEGRAM == sizes::MAX_TELEGRAM);
 };
 
+/// The statuses of a row, by number.
+pub const STATUSES: [&str; 5] = ["WAITING", "SETTING", "LISTED", "SILENT", "IGNORED"];
+
 /// One row of a picture, with zeros for what it does not keep.
 #[derive(Clone, Copy, PartialEq, Default)]
 pub struct ShownRow {
@@ -32,7 +35,7 @@ pub struct ShownRow {
 /// As `rows` writes it, with place and tries of the renumbering.
 impl fmt::Debug for ShownRow {
     fn fmt(&self, f: &mut fmt::Formatter) -> fmt::Result {
-        let status = ["WAITING", "SETTING", "LISTED", "SILENT", "IGNORED"].get(self.status as usize).unwrap_or(&"?");
+        let status = STATUSES.get(self.status as usize).unwrap_or(&"?");
         let address = self.address.map_or("----".to_string(), |address| format!("{address:04X}"));
         write!(f, "{status} {address} bad {} silent {} place {} tries {}", self.bad, self.silences, self.place, self.tries)?;
         let count = self.count as usize;

@@ -7,7 +7,7 @@ use reference::registry::Ring;
 use reference::sizes::{BENCH_ROOM, MIN_ROOM, MIN_SIZE};
 use reference::wire::{self, KIND, ORDER_KINDS};
 
-use crate::boxes::RingBox;
+use crate::boxes::{RingBox, STATUSES};
 use crate::ring::{Player, Session, Step};
 use crate::script::{Found, Stop};
 
@@ -21,7 +21,7 @@ pub struct Tally {
     /// By order kind.
     pub orders: [usize; ORDER_KINDS as usize],
     /// By row status, over some of the pictures.
-    pub rows: [usize; 5],
+    pub rows: [usize; STATUSES.len()],
     /// The most pairs listed at once.
     pub listed: usize,
 }
@@ -35,7 +35,7 @@ pub fn run<P: RingBox>(seed: u64, records: usize, tally: &mut Tally, progress: i
         Err(difference) => return Some(session.explain::<P>(difference)),
     };
     let mut both = Both { random, player, session, tally, records, progress };
-    match Play::new(&mut both, seed).run(seed) {
+    match Play::new(&mut both, seed).run() {
         Stop::Different(difference) => Some(both.session.explain::<P>(difference)),
         Stop::Full => both.player.compare_closely().err().map(|difference| both.session.explain::<P>(difference)),
     }
@@ -70,6 +70,14 @@ impl<P: RingBox, F: FnMut(usize)> Both<'_, P, F> {
             _ => self.random.pick(&[0, 1, 7, 255, 256, MIN_ROOM - 2, MIN_ROOM - 1, MIN_ROOM - 1]),
         };
         room.min(BENCH_ROOM)
+    }
+
+    fn look_up(&mut self, pairs: usize, blocks: &[u8]) -> Result<(), Stop> {
+        for _ in 0..pairs {
+            let pair = pair_near(self.player.ring(), blocks, &mut self.random);
+            self.player.compare_look_up(pair.block, pair.number)?;
+        }
+        Ok(())
     }
 
     fn count(&mut self, number: u8, orders: &[u8]) {
@@ -120,20 +128,15 @@ impl<P: RingBox, F: FnMut(usize)> Stage for Both<'_, P, F> {
 
     /// All but the listing and look-ups is compared after each record.
     fn look_around(&mut self, _: u8, blocks: &[u8]) -> Result<(), Stop> {
-        let look_ups = match self.random.below(200) {
-            0 => return self.look_closely(),
-            1..=40 => 12,
-            41..=100 => 2,
-            _ => 0,
-        };
-        if look_ups == 12 {
-            self.tally.listed = self.tally.listed.max(self.player.compare_listing()?.len());
+        match self.random.below(200) {
+            0 => self.look_closely(),
+            1..=40 => {
+                self.tally.listed = self.tally.listed.max(self.player.compare_listing()?.len());
+                self.look_up(12, blocks)
+            }
+            41..=100 => self.look_up(2, blocks),
+            _ => Ok(()),
         }
-        for _ in 0..look_ups {
-            let pair = pair_near(self.player.ring(), blocks, &mut self.random);
-            self.player.compare_look_up(pair.block, pair.number)?;
-        }
-        Ok(())
     }
 
     fn look_closely(&mut self) -> Result<(), Stop> {

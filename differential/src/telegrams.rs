@@ -193,7 +193,7 @@ impl<P: TelegramBox> Player<P> {
             number => {
                 must_at("proved: byte of the buffer after a refusal", proved_buffer, kept)?;
                 if number == OUT_OF_SEQUENCE {
-                    must("proved: open message after 16", self.proved.is_open(), false)?;
+                    must("proved: open message where one is dropped", self.proved.is_open(), false)?;
                 } else {
                     must("proved: state unchanged by a refusal", self.proved == before.0, true)?;
                     must("reference: state unchanged by a refusal", self.reference == before.1, true)?;

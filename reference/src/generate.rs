@@ -9,21 +9,38 @@ mod script;
 pub mod streams;
 mod telegrams;
 
+use crate::sizes::{MAX_SIZE, MIN_SIZE};
 pub use random::Random;
 use script::{Full, Script};
 
-/// Scripts of so many lines begin with many passes.
+/// Scripts of so many lines begin with so many passes.
 const LONG: usize = 150_000;
 const MANY_PASSES: usize = 66_000;
-/// Joins of the greatest length, one for each way to end.
-const LONG_JOINS: usize = 5;
+
+/// Payload sizes that are refused.
+const BAD_SIZES: &[usize] = &[
+    0,
+    1,
+    MIN_SIZE - 2,
+    MIN_SIZE - 1,
+    MAX_SIZE + 1,
+    MAX_SIZE + 2,
+    255,
+    256 + MIN_SIZE,
+    65_536 + MIN_SIZE,
+    0x8000_0000 + MIN_SIZE,
+    u32::MAX as usize,
+    (1 << 32) + MIN_SIZE,
+    usize::MAX,
+];
 
 /// A script of about `lines` lines for the registry.
 pub fn ringbox(seed: u64, lines: usize) -> Vec<u8> {
     let mut writer = ringbox::Writer::new(Script::new(!seed, lines));
     let mut play = rings::Play::new(&mut writer, seed);
-    let climbed = if lines < LONG { Ok(()) } else { play.climb(MANY_PASSES) };
-    let Full = climbed.err().unwrap_or_else(|| play.run(seed));
+    if lines < LONG || play.climb(MANY_PASSES).is_ok() {
+        let Full = play.run();
+    }
     writer.into_text()
 }
 
@@ -34,10 +51,11 @@ pub fn telegrams(seed: u64, lines: usize) -> Vec<u8> {
     let long_joins = match lines {
         0..4_000 => 0,
         4_000..20_000 => 1,
-        _ => LONG_JOINS,
+        _ => streams::ENDS,
     };
-    let joined = (0..long_joins).try_for_each(|join| play.long_join((seed as usize + join) % LONG_JOINS));
-    let Full = joined.err().unwrap_or_else(|| play.run());
+    if (0..long_joins).all(|join| play.long_join(seed as usize + join).is_ok()) {
+        let Full = play.run();
+    }
     writer.into_text()
 }
 

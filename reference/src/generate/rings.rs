@@ -5,26 +5,11 @@ mod scenes;
 mod steps;
 mod units;
 
-use super::Random;
+use super::{Random, BAD_SIZES};
 use crate::registry::{Pair, Ring, Status};
 use crate::sizes::{MAX_NODES, MAX_SIZE, MIN_SIZE};
 use crate::wire::{self, event, SET};
 use units::{Taste, Unit};
-
-/// Payload sizes that no picture is made for.
-const BAD_SIZES: &[usize] = &[
-    0,
-    1,
-    MIN_SIZE - 1,
-    MAX_SIZE + 1,
-    255,
-    256 + MIN_SIZE,
-    65_536 + MIN_SIZE,
-    0x8000_0000 + MIN_SIZE,
-    u32::MAX as usize,
-    (1 << 32) + MIN_SIZE,
-    usize::MAX,
-];
 
 /// What a ring is played on: it takes the records, and shows the ring that they make.
 pub trait Stage {
@@ -81,7 +66,8 @@ pub struct Play<'a, S> {
     units: Vec<Unit>,
     taste: Taste,
     habits: Habits,
-    /// L of the next fresh picture.
+    scene: usize,
+    /// L of the last fresh picture.
     size: usize,
     /// The last records.
     past: Vec<Vec<u8>>,
@@ -90,18 +76,18 @@ pub struct Play<'a, S> {
 impl<'a, S: Stage> Play<'a, S> {
     pub fn new(stage: &'a mut S, seed: u64) -> Play<'a, S> {
         let mut random = Random::new(seed);
+        let scene = seed as usize % Self::SCENES.len();
         let (size, taste) = (random.range(MIN_SIZE, MAX_SIZE), Taste::any(&mut random));
-        Play { stage, random, units: Vec::new(), taste, habits: Habits::default(), size, past: Vec::new() }
+        Play { stage, random, units: Vec::new(), taste, habits: Habits::default(), scene, size, past: Vec::new() }
     }
 
-    /// Plays scene after scene, the seed's first, until the stage says stop.
-    pub fn run(&mut self, seed: u64) -> S::Stop {
-        let mut scene = seed as usize % Self::SCENES.len();
+    /// Plays scene after scene, from the seed's first on, until the stage says stop.
+    pub fn run(&mut self) -> S::Stop {
         loop {
-            if let Err(stop) = (Self::SCENES[scene])(self) {
+            if let Err(stop) = (Self::SCENES[self.scene])(self) {
                 return stop;
             }
-            scene = (scene + 1) % Self::SCENES.len();
+            self.scene = (self.scene + 1) % Self::SCENES.len();
         }
     }
 

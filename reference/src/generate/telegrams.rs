@@ -21,6 +21,11 @@ impl Writer {
         self.script.into_text()
     }
 
+    fn say(&mut self, command: &str) -> Result<(), Full> {
+        self.script.command(command);
+        self.script.go_on()
+    }
+
     /// A number as a script can say it.
     fn number(&mut self, value: usize) -> String {
         self.script.decimal(u32::try_from(value).unwrap_or(u32::MAX))
@@ -47,33 +52,28 @@ impl Stage for Writer {
     }
 
     fn fill(&mut self, length: usize, seed: u32) -> Result<(), Full> {
-        let (length_text, seed_text) = (self.script.decimal(length), self.script.decimal(seed));
-        self.script.command(&format!("fill {length_text} {seed_text}"));
         self.payload = fill(length, seed);
-        self.script.go_on()
+        let (length, seed) = (self.number(length), self.number(seed as usize));
+        self.say(&format!("fill {length} {seed}"))
     }
 
     fn count(&mut self, l: usize) -> Result<(), Full> {
         let l = self.number(l);
-        self.script.command(&format!("count {l}"));
-        self.script.go_on()
+        self.say(&format!("count {l}"))
     }
 
     fn cut(&mut self, l: usize, msg_id: u32, number: usize, room: usize) -> Result<(), Full> {
         let (l, number, room) = (self.number(l), self.number(number), self.number(room));
-        self.script.command(&format!("cut {l} {msg_id:08X} {number} {room}"));
-        self.script.go_on()
+        self.say(&format!("cut {l} {msg_id:08X} {number} {room}"))
     }
 
     fn cut_all(&mut self, l: usize, msg_id: u32) -> Result<(), Full> {
         let l = self.number(l);
-        self.script.command(&format!("cutall {l} {msg_id:08X}"));
-        self.script.go_on()
+        self.say(&format!("cutall {l} {msg_id:08X}"))
     }
 
     fn rejoin(&mut self) -> Result<(), Full> {
-        self.script.command("rejoin");
-        self.script.go_on()
+        self.say("rejoin")
     }
 
     fn join(&mut self, l: usize, room: usize, telegram: &[u8]) -> Result<(), Full> {

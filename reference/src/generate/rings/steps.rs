@@ -2,7 +2,7 @@
 
 use super::units::{Taste, Unit};
 use super::{Play, Played, Stage};
-use crate::registry::State;
+use crate::registry::{State, ADDRESS_MAX, ADDRESS_MIN};
 use crate::sizes::MAX_NODES;
 use crate::wire::{answer, ADDRESS, DELAY, NCE, NONE, SHUTDOWN, START};
 
@@ -173,7 +173,7 @@ impl<S: Stage> Play<'_, S> {
         match self.random.below(10) {
             0..=2 => self.random.pick(ADDRESS_EDGES),
             3 => self.random.word() as u16,
-            4 => self.random.range(0x0101, 0x02FF) as u16,
+            4 => self.random.range(ADDRESS_MIN as usize, ADDRESS_MAX as usize) as u16,
             5..=7 if !held.is_empty() => self.random.pick(&held),
             _ => self.units[self.random.below(nodes)].address,
         }

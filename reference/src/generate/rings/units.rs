@@ -1,6 +1,6 @@
 //! Models of units: what they announce, and what they make of a SET.
 
-use super::super::Random;
+use crate::generate::Random;
 use crate::registry::Pair;
 use crate::sizes::MAX_PAIRS;
 

@@ -100,7 +100,7 @@ impl Stage for Writer {
     fn look_closely(&mut self) -> Result<(), Full> {
         self.script.go_on()?;
         self.script.command("rows");
-        if self.script.random.chance(60) {
+        if self.script.random.chance(30) {
             self.script.command("listing");
         }
         for _ in 0..4 {

@@ -76,9 +76,9 @@ impl<'a, S: Stage> Play<'a, S> {
         self.stage.begin()?;
         for _ in 0..40 {
             match self.random.below(100) {
-                0..=29 => self.cuts()?,
-                30..=34 => self.sizes()?,
-                35..=59 => self.joins()?,
+                0..=25 => self.cuts()?,
+                26 | 27 => self.sizes()?,
+                28..=59 => self.joins()?,
                 60..=74 => self.whole_message()?,
                 75..=84 => self.interleaved()?,
                 85..=89 => self.wrap()?,

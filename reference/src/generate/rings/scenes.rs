@@ -1,6 +1,6 @@
 //! The scenes: each begins with a fresh picture and new units, and leads the ring to one kind of trouble.
 
-use super::steps::ADDRESS_EDGES;
+use super::steps::{ADDRESS_EDGES, PASS_EDGES};
 use super::units::{beggar, Unit};
 use super::{Habits, Play, Played, Stage};
 use crate::registry::{Pair, State};
@@ -11,10 +11,10 @@ use crate::wire::{answer, DELAY, NONE};
 const SHARED: &[u16] = &[0x0101, 0x02FF, 0x0102, 0x0103, 0x0100, 0x0300, 0x02FE, 0x0200, 0x0000, 0x00FF, 0xFFFF];
 const OUT_OF_RANGE: &[u16] = &[0x0100, 0x0300, 0xFFFF, 0x0000];
 /// Numbers at the ends of the words of a bit set.
-const SPARE: &[u8] = &[1, 2, 62, 63, 64, 65, 126, 127, 128, 191, 192, 193, 253, 254, 254, 100];
+const SPARE: &[u8] = &[1, 2, 62, 63, 64, 64, 65, 100, 126, 127, 128, 191, 192, 193, 253, 254, 254, 254];
 
 impl<S: Stage> Play<'_, S> {
-    pub const SCENES: [fn(&mut Self) -> Played<S>; 15] = [
+    pub const SCENES: [fn(&mut Self) -> Played<S>; 16] = [
         Self::mixed,
         Self::silences,
         Self::mixed,
@@ -28,6 +28,7 @@ impl<S: Stage> Play<'_, S> {
         Self::quarrel,
         Self::packing,
         Self::silences,
+        Self::full_block,
         Self::damage,
         Self::passes,
     ];
@@ -170,7 +171,7 @@ impl<S: Stage> Play<'_, S> {
         if random.chance(60) {
             random.shuffle(&mut numbers);
         }
-        for _ in 0..random.pick(&[0, 1, 1, 1, 2, 3, 4]) {
+        for _ in 0..random.pick(&[0, 1, 1, 1, 1, 2, 3, 4]) {
             let spare = random.pick(SPARE);
             numbers.retain(|&number| number != spare);
         }
@@ -186,7 +187,7 @@ impl<S: Stage> Play<'_, S> {
         self.reply_to_each()?;
         self.reply_to_all(60)?;
         self.stage.look_closely()?;
-        for _ in 0..self.length(12, 32) {
+        for _ in 0..self.length(8, 30) {
             self.beg(block)?;
         }
         self.stage.look_closely()
@@ -357,12 +358,11 @@ impl<S: Stage> Play<'_, S> {
         for unit in &mut self.units {
             unit.lies = unit.lies.max(self.random.pick(&[0, 0, 5, 20]));
         }
-        let first = self.random.pick(&[0, 0, 0, u32::MAX]);
+        let first = self.random.pick(PASS_EDGES);
         if !self.stage.set_pass(first)? {
             let passes = self.random.pick(&[3, 3, 10, 10, 10, 10, 10, 10, 10, 260, 520]);
             self.climb(passes)?;
-        }
-        if first != 0 {
+        } else if first == u32::MAX {
             self.go_on()?;
             self.stage.set_pass(first - 1)?;
         }

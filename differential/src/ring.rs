@@ -5,7 +5,7 @@ use crate::minimize::{minimize, Simpler};
 use crate::script::{differ, differ_at, must, must_at, Difference, Found};
 use reference::registry::Ring;
 use reference::sizes::{BENCH_ROOM, MAX_NODES};
-use reference::wire::{ANSWER, ANSWER_HEAD, COUNT, DELAY, KIND, NCE, NONE, PASS, RECORD_HEAD, RECORD_MARK, START, X};
+use reference::wire::{event, ADDRESS, ANSWER, ANSWER_HEAD, COUNT, DELAY, KIND, NCE, NONE, PASS, RECORD_HEAD, RECORD_MARK, START, X};
 
 const GUARD: usize = 64;
 /// Lent room begins at this many places in turn, so that it has every alignment.
@@ -32,6 +32,17 @@ impl Step {
         Step::Record { bytes: bytes.to_vec(), ahead, room, fill: fill % AREA }
     }
 
+    /// An NCE as a START.
+    fn as_start(&self) -> Option<Step> {
+        match self {
+            Step::Record { bytes, ahead, room, fill } if nodes(bytes).is_some() && bytes[KIND] == NCE => {
+                let bytes = event(START, 0, bytes[X]);
+                Some(Step::Record { bytes, ahead: *ahead, room: *room, fill: *fill })
+            }
+            _ => None,
+        }
+    }
+
     /// The step in a ring without the unit at a position, where it is still one.
     fn without_unit(&self, position: u8) -> Option<Step> {
         let Step::Record { bytes, ahead, room, fill } = self else { return Some(self.clone()) };
@@ -47,37 +58,51 @@ impl Step {
 
 impl Simpler for Step {
     fn simpler(&self) -> Vec<Step> {
-        let Step::Record { bytes, ahead, room, fill } = self else { return Vec::new() };
-        let with = |bytes: Vec<u8>, room: usize| Step::Record { bytes, ahead: *ahead, room, fill: *fill };
-        let mut steps = Vec::new();
-        if *room != BENCH_ROOM {
-            steps.push(with(bytes.clone(), BENCH_ROOM));
-        }
-        if let Some(nodes @ 2..) = nodes(bytes) {
-            for nodes in [nodes / 2, nodes - 1] {
-                steps.push(with([&bytes[..X], &[nodes]].concat(), *room));
+        match self {
+            Step::Pass(u32::MAX) => Vec::new(),
+            Step::Pass(_) => vec![Step::Pass(u32::MAX)],
+            Step::Record { bytes, ahead, room, fill } => {
+                let with = |bytes: Vec<u8>, room: usize| Step::Record { bytes, ahead: *ahead, room, fill: *fill };
+                let roomy = (*room != BENCH_ROOM).then(|| with(bytes.clone(), BENCH_ROOM));
+                roomy.into_iter().chain(simpler_records(bytes).into_iter().map(|bytes| with(bytes, *room))).collect()
             }
         }
-        if bytes.len() > ANSWER_HEAD && bytes[KIND] == ANSWER && bytes.len() == ANSWER_HEAD + 2 * bytes[COUNT] as usize {
-            for at in (ANSWER_HEAD..bytes.len()).step_by(2) {
-                let mut fewer = bytes.clone();
-                fewer.drain(at..at + 2);
-                fewer[COUNT] -= 1;
-                steps.push(with(fewer, *room));
-            }
-        }
-        steps
     }
 
-    /// Sessions without one of the units: the greatest N is less by one.
+    /// Sessions that begin with a later scan, and sessions without one of the units: the greatest N is less by one.
     fn rewritten(steps: &[Step]) -> Vec<Vec<Step>> {
         let nodes = |step: &Step| match step {
             Step::Record { bytes, .. } => nodes(bytes),
             Step::Pass(_) => None,
         };
         let most = steps.iter().filter_map(nodes).max().unwrap_or(0).min(MAX_NODES as u8);
-        (1..most).map(|position| steps.iter().filter_map(|step| step.without_unit(position)).collect()).collect()
+        let later = (1..steps.len()).filter_map(|at| Some([&[steps[at].as_start()?], &steps[at + 1..]].concat()));
+        let smaller = (1..most).map(|position| steps.iter().filter_map(|step| step.without_unit(position)).collect());
+        later.chain(smaller).collect()
     }
+}
+
+/// A scan of a smaller ring; an ANSWER with the unit's own address, or without one of its pairs.
+fn simpler_records(bytes: &[u8]) -> Vec<Vec<u8>> {
+    if let Some(nodes) = nodes(bytes) {
+        let smaller = [nodes / 2, nodes.saturating_sub(1)].into_iter().filter(|&nodes| nodes > 0);
+        return smaller.map(|nodes| [&bytes[..X], &[nodes]].concat()).collect();
+    }
+    if bytes.len() < ANSWER_HEAD || bytes[KIND] != ANSWER || bytes.len() != ANSWER_HEAD + 2 * bytes[COUNT] as usize {
+        return Vec::new();
+    }
+    let mut records = Vec::new();
+    let own = (0x0100 + u16::from(bytes[X])).to_be_bytes();
+    if bytes[ADDRESS] != own {
+        records.push([&bytes[..ADDRESS.start], &own, &bytes[ADDRESS.end..]].concat());
+    }
+    for at in (ANSWER_HEAD..bytes.len()).step_by(2) {
+        let mut fewer = bytes.to_vec();
+        fewer.drain(at..at + 2);
+        fewer[COUNT] -= 1;
+        records.push(fewer);
+    }
+    records
 }
 
 /// The pass of a record of a kind that carries one.

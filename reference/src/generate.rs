@@ -11,7 +11,7 @@ mod telegrams;
 
 use crate::sizes::{MAX_SIZE, MIN_SIZE};
 pub use random::Random;
-use script::{Full, Script};
+use script::Script;
 
 /// Scripts of so many lines begin with so many passes.
 const LONG: usize = 150_000;
@@ -39,7 +39,7 @@ pub fn ringbox(seed: u64, lines: usize) -> Vec<u8> {
     let mut writer = ringbox::Writer::new(Script::new(!seed, lines));
     let mut play = rings::Play::new(&mut writer, seed);
     if lines < LONG || play.climb(MANY_PASSES).is_ok() {
-        let Full = play.run();
+        play.run();
     }
     writer.into_text()
 }
@@ -54,7 +54,7 @@ pub fn telegrams(seed: u64, lines: usize) -> Vec<u8> {
         _ => streams::ENDS,
     };
     if (0..long_joins).all(|join| play.long_join(seed as usize + join).is_ok()) {
-        let Full = play.run();
+        play.run();
     }
     writer.into_text()
 }

@@ -14,6 +14,7 @@ const COUNTS: &[usize] = &[0, 1, MAX_PAIRS - 1, MAX_PAIRS, MAX_PAIRS + 1, MAX_PA
 const BAD_NODES: &[usize] = &[0, MAX_NODES + 1, MAX_NODES + 2, 127, 128, 255];
 
 impl<S: Stage> Play<'_, S> {
+    /// One of them, or a unit that changes its place.
     pub fn noise(&mut self) -> Played<S> {
         let position = self.any_position();
         match self.random.below(50) {

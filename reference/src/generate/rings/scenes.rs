@@ -40,7 +40,7 @@ impl<S: Stage> Play<'_, S> {
         let chatter = self.random.pick(&[30, 60, 90]);
         let most_pairs = self.random.pick(&[1, 2, 3, 4, 8, MAX_PAIRS]);
         self.begin(Habits { nodes, noise, replug, chatter, ..Habits::default() }, most_pairs)?;
-        let steps = self.length(40, 150) + self.length(5, 5) * nodes;
+        let steps = self.length(40 + 5 * nodes, 150 + 5 * nodes);
         self.steps(steps)
     }
 

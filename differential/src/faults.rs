@@ -165,7 +165,7 @@ fn a_refusal() {
 
 #[test]
 fn a_listing() {
-    is_short(Ringbox::new(), &ring_fault::<LISTS_BEHIND_THE_COUNT>(), ">", 4);
+    is_short(Ringbox::new(), &ring_fault::<LISTS_BEHIND_THE_COUNT>(), ">", 3);
 }
 
 #[test]

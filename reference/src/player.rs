@@ -180,10 +180,10 @@ fn put_refusal(out: &mut Vec<u8>, number: u8) {
 /// A number in words.
 fn meaning(number: u8) -> Cow<'static, str> {
     let words = match number {
-        refusal::ROOM_TOO_SMALL => return format!("order room below {MIN_ROOM} bytes").into(),
-        refusal::MALFORMED => "record malformed",
+        refusal::ORDER_ROOM_TOO_SHORT => return format!("order room below {MIN_ROOM} bytes").into(),
+        refusal::RECORD_MALFORMED => "record malformed",
         refusal::NOT_RUNNING => "the ring does not run",
-        refusal::RUNNING => "the ring runs already",
+        refusal::ALREADY_RUNNING => "the ring runs already",
         refusal::WRONG_PASS => "not the current pass",
         refusal::NO_SUCH_POSITION => "no unit at this position",
         refusal::POSITION_IGNORED => "the position is ignored",
@@ -192,7 +192,7 @@ fn meaning(number: u8) -> Cow<'static, str> {
         refusal::ILLEGAL_SIZE => return format!("L is not {MIN_SIZE} to {MAX_SIZE}").into(),
         refusal::PAYLOAD_TOO_LONG => return format!("payload above {MAX_PAYLOAD} bytes").into(),
         refusal::NO_SUCH_TELEGRAM => "no telegram of this number",
-        refusal::BUFFER_TOO_SMALL => "lent room too short",
+        refusal::ROOM_TOO_SHORT => "lent room too short",
         refusal::TELEGRAM_MALFORMED => "telegram malformed",
         refusal::TEL_ID_PASSED_OVER => "TelID above 3: passed over",
         refusal::OUT_OF_SEQUENCE => "out of sequence: an open message is dropped",

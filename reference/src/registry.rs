@@ -318,9 +318,9 @@ impl Ring {
     /// Offers a record: the orders stand at the start of `out`, their length comes back, or a number.
     pub fn record(&mut self, bytes: &[u8], out: &mut [u8]) -> Result<usize, u8> {
         if out.len() < MIN_ROOM {
-            return Err(refusal::ROOM_TOO_SMALL);
+            return Err(refusal::ORDER_ROOM_TOO_SHORT);
         }
-        let event = Event::read(bytes).ok_or(refusal::MALFORMED)?;
+        let event = Event::read(bytes).ok_or(refusal::RECORD_MALFORMED)?;
         self.check(&event)?;
         let mut orders = Orders::new(out);
         match event {
@@ -339,7 +339,7 @@ impl Ring {
     fn check(&self, event: &Event) -> Result<(), u8> {
         match (event, self.state) {
             (Event::Start { .. }, State::Off) => {}
-            (Event::Start { .. }, _) => return Err(refusal::RUNNING),
+            (Event::Start { .. }, _) => return Err(refusal::ALREADY_RUNNING),
             (_, State::Off) => return Err(refusal::NOT_RUNNING),
             _ => {}
         }

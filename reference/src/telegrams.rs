@@ -50,7 +50,7 @@ pub fn cut(l: u32, msg_id: u32, payload: &[u8], number: u32, out: &mut [u8]) -> 
 fn write(msg_id: u32, tel_id: u8, counter: Option<u8>, part: &[u8], out: &mut [u8]) -> Result<usize, u8> {
     let tel_len = part.len() + usize::from(counter.is_some());
     let length = TELEGRAM_HEAD + tel_len;
-    let out = out.get_mut(..length).ok_or(refusal::BUFFER_TOO_SMALL)?;
+    let out = out.get_mut(..length).ok_or(refusal::ROOM_TOO_SHORT)?;
     out[..4].copy_from_slice(&msg_id.to_be_bytes());
     out[4..TELEGRAM_HEAD].copy_from_slice(&(u16::from(tel_id) << 12 | tel_len as u16).to_be_bytes());
     if let Some(counter) = counter {
@@ -114,7 +114,7 @@ impl Joining {
     pub fn join(&mut self, l: u32, buffer: &mut [u8], telegram: &[u8]) -> Result<Option<(u32, usize)>, u8> {
         let size = payload_size(l)?;
         if buffer.len() < MAX_PAYLOAD {
-            return Err(refusal::BUFFER_TOO_SMALL);
+            return Err(refusal::ROOM_TOO_SHORT);
         }
         let telegram = Telegram::read(size, telegram)?;
         let open = self.open.take();

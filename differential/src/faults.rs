@@ -120,8 +120,11 @@ fn ring_fault<const FAULT: u8>() -> Found {
     scenes::run::<Faulty<FAULT>>(1, 200_000, &mut scenes::Tally::default(), |_| ()).expect("the fault is found")
 }
 
+/// With this seed the first messages that are joined have few telegrams. A message is not shortened, so the script has them all.
+const SHORT_MESSAGES: u64 = 4;
+
 fn telegram_fault<const FAULT: u8>() -> Found {
-    let found = streams::run::<FaultyTelegrams<FAULT>>(1, 100_000, &mut streams::Tally::default(), |_| ());
+    let found = streams::run::<FaultyTelegrams<FAULT>>(SHORT_MESSAGES, 100_000, &mut streams::Tally::default(), |_| ());
     found.expect("the fault is found")
 }
 
@@ -177,7 +180,7 @@ fn the_last_pass() {
 
 #[test]
 fn a_message() {
-    is_short(Telegrams::new(), &telegram_fault::<DROPS_THE_LAST_BYTE>(), "join", 4);
+    is_short(Telegrams::new(), &telegram_fault::<DROPS_THE_LAST_BYTE>(), "join", 3);
 }
 
 #[test]

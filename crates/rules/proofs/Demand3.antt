@@ -347,7 +347,7 @@ demand3 l rs =
   where
     reaches : (i e n : ℕ) → i < e → e ≤ length rs → Names (accepted (pictureAt l rs i) (recordAt rs i)) n
         → ((j : ℕ) → i < j → j < e → Allowed (pictureAt l rs j) (accepted (pictureAt l rs j) (recordAt rs j)))
-        → (1 ≤ n) × (n ≤ 64) × Reaches l rs (suc i) e n
+        → (1 ≤ n) × (n ≤ maxNodes) × Reaches l rs (suc i) e n
     reaches i e n h g m a =
         let b = begun (pictureAt l rs i) (recordAt rs i) n m in
         let f = picture-next l rs i (omega arith) in

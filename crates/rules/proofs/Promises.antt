@@ -20,7 +20,7 @@ use Rattle.rules.proofs.RoundTrip.{roundTrip, cuts, lengths}
 use Rattle.rules.proofs.Edges.{edgesHold, casesHold}
 use Rattle.rules.proofs.Tight.{longestWay, largestEvent}
 
-legal : (size : ℕ) → 12 ≤ size → size ≤ 45 → legalSize size ≡ true
+legal : (size : ℕ) → minSize ≤ size → size ≤ maxSize → legalSize size ≡ true
 unfolding legalSize
 legal size l h = and-true (leb minSize size) (leb size maxSize) (le-leb minSize size l) (le-leb size maxSize h)
 

@@ -1,4 +1,4 @@
--- Sound pictures: few rows, no shared address, no shared pair, at most 16 pairs a row. Every change of a sound picture is sound.
+-- Sound pictures: few rows, no shared address, no shared pair, no more pairs a row than an answer has. Every change of a sound picture is sound.
 use Prim.Native.Nat.{ℕ, suc, _-_, _≤_}
 use mathlib.Core.Path.{_≡_, refl, sym, subst}
 use mathlib.Core.Bool.{Bool, true, false, cond}

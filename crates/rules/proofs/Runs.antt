@@ -1,16 +1,19 @@
 -- What holds after every record of every list: the picture is sound, NOTOK waits for a question, every open question is of the
 -- current pass.
-use Prim.Native.Nat.{ℕ}
+use Prim.Native.Nat.{ℕ, _≤_}
 use mathlib.Core.Path.{_≡_, refl, sym, _∙_, ap, subst}
 use mathlib.Core.Bool.{Bool, true, false, cond, not, _&&_, _||_}
 use mathlib.Core.List.{List, [], _∷_, _++_, map}
 use mathlib.Core.Option.{Option, none, some}
 use mathlib.Core.Logic.{_⊎_, inl, inr}
 use native.Mathlib.Omega.{arith}
+use borrow.Author.Tests.{leb-true}
+use lib.Dec.{leb}
 use Rattle.laws.specs.Lists.{any}
-use Rattle.laws.specs.Bools.{clash, or-cases}
+use Rattle.laws.specs.Bools.{clash, and-left, or-cases}
 use Rattle.laws.specs.Alls.{any-append, any-left, any-right}
-use Rattle.rules.specs.Picture.{State, Off, NotOk, Ok, isNotOk, Picture, withState, withDelay, isOpen, openAt, fresh}
+use Rattle.rules.specs.House.{minSize, maxSize}
+use Rattle.rules.specs.Picture.{State, Off, NotOk, Ok, isNotOk, Picture, withState, withDelay, isOpen, openAt, legalSize, fresh}
 use Rattle.rules.specs.Order.{Order}
 use Rattle.rules.specs.Step.{Change}
 use Rattle.rules.specs.Ending.{becomesOk, settled, okOrder, told, waitOrder, ordersOf, pictureOf}
@@ -78,10 +81,19 @@ not-notok : {X : Type 0} (s : State) → isNotOk s ≡ false → s ≡ NotOk →
 unfolding isNotOk
 not-notok s h e = clash (ap isNotOk e) h
 
+-- a fresh picture has an L that is legal
+fresh-size : (l : ℕ) → minSize ≤ fresh l .size
+unfolding fresh legalSize
+fresh-size l = go (legalSize l) refl
+  where
+    go : (t : Bool) → legalSize l ≡ t → minSize ≤ cond t l minSize
+    go true h = leb-true minSize l (and-left (leb minSize l) (leb l maxSize) h)
+    go false h = omega arith
+
 pub running-fresh : (l : ℕ) → Running (fresh l) []
 unfolding fresh openAt isNotOk
 running-fresh l =
-    record { sound = record { rows = no-rows; pass = omega arith }; waits = λ h. not-notok Off refl h; current = λ x o. clash o (nothing-open x) }
+    record { sound = record { rows = no-rows; pass = omega arith; size = fresh-size l }; waits = λ h. not-notok Off refl h; current = λ x o. clash o (nothing-open x) }
 
 -- NOTOK after an event means that a question is open
 settled-waits : (p : Picture) → settled p .state ≡ NotOk → any isOpen (p .rows) ≡ true
@@ -98,7 +110,7 @@ settled-waits p h = go (p .state) (any isOpen (p .rows)) h
 pub running-taken : Keeps Running
 unfolding pictureOf settled withState withDelay openAt later
 running-taken p sent e c r t h f =
-    record { sound = record { rows = sound .rows; pass = sound .pass }; waits = settled-waits (c .picture); current = current }
+    record { sound = record { rows = sound .rows; pass = sound .pass; size = sound .size }; waits = settled-waits (c .picture); current = current }
   where
     sound : Sound (c .picture)
     sound = subst (Always (λ (d : Change). Formed e → Sound (d .picture))) h (in-every-way p _ (sound-ways p (r .sound)) e) f

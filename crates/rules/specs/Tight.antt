@@ -38,5 +38,6 @@ pub record LongestWay : Type 0 where
 unfoldable pub fullRing : List Record
 fullRing = withRoom 8 0x4D45_01_00000000_40 ∷ withRoom 8 0x4D45_02_00000000_40 ∷ []
 
+-- its orders have 511 bytes; proved in rules_full_size
 pub record LargestEvent : Type 0 where
   pub bytes : length (written (offered (pictureAt 12 fullRing 1) (recordAt fullRing 1))) ≡ 511

@@ -14,7 +14,7 @@ use Rattle.rules.specs.Picture.{Pair, Status, WAITING, SETTING, LISTED, 
 use Rattle.rules.specs.Event.{Event}
 use Rattle.rules.specs.Renumber.{Renumbering, finished, renumbers, goods}
 use Rattle.rules.specs.Step.{Change, scanned, scan, begin, shutDown, changeRows, silenced, asked, delayEnds, ignored, counted, onCounted, emptied, statusAfter, judgedFor, renumberingFor, listedRow, keepAnswer}
-use Rattle.rules.specs.Ending.{pictureOf, settled}
+use Rattle.rules.specs.Ending.{settled, ended, pictureOf}
 use Rattle.rules.specs.Run.{Record, Sent}
 use Rattle.rules.specs.Claims.{pictureAt, Unbarred}
 use Rattle.rules.proofs.Ways.{Ways, Seated, Cleared, Always, in-every-way}
@@ -220,7 +220,7 @@ module _ (p : Picture) (h : Pairwise BothClear (p .rows)) where
 
 -- every taken event
 clear-taken : Keeps (λ (p : Picture) (sent : List Sent). Pairwise BothClear (p .rows))
-unfolding pictureOf settled withState withDelay
+unfolding pictureOf ended settled withState withDelay
 clear-taken p sent e c h t q f = subst (Always (λ (b : Change). Pairwise BothClear (b .picture .rows))) q (in-every-way p _ (clear-ways p h) e)
 
 -- at every two positions

@@ -19,7 +19,7 @@ use Rattle.rules.specs.House.{minRoom, maxNodes, maxPairs, maxTries}
 use Rattle.rules.specs.Picture.{State, NotOk, Ok, Status, WAITING, SETTING, LISTED, SILENT, IGNORED, Row, Picture, withState, withDelay, withRows, isOpen, isOpenStatus, isIgnored, isIgnoredStatus, newRow, noRow, rowAt, openAt, fresh, seatAt, put}
 use Rattle.rules.specs.Event.{Event, START, NCE, SHUTDOWN, ANSWER, NONE, DELAY, decode, encodeEvent, header, four, two}
 use Rattle.rules.specs.Step.{Change, Response, change, refuseIf, scanned, scan, begin, shutDown, changeRows, silenced, delayEnds, keepAnswer, takes, noPosition, respond}
-use Rattle.rules.specs.Ending.{becomesOk, settled, pictureOf}
+use Rattle.rules.specs.Ending.{becomesOk, settled, ended, pictureOf}
 use Rattle.rules.specs.Run.{Outcome, onEvent, onDecoded, concluded, step, Record, offered, left, sentBy, Sent, next, after, history}
 use Rattle.rules.specs.Claims.{Exists8, ifTaken, accepted, isReply, countReply, repliesIn, pictureAt, sentAt, recordAt, repliesBetween, Awaits, Names, Allowed, bound, Reaches, arrives, holdsFewer, Demand3}
 use Rattle.rules.proofs.Ways.{Ways, Always, in-every-way, Offered, was-refused, was-taken, offered-cases}
@@ -130,7 +130,7 @@ abbrev Going : Picture → Type 0
 Going p = (p .state ≡ NotOk) ⊎ (p .state ≡ Ok)
 
 settled-goes : (c : Change) → c .picture .state ≡ NotOk → Going (pictureOf c)
-unfolding pictureOf settled withState withDelay
+unfolding pictureOf ended settled withState withDelay
 settled-goes c h = go (becomesOk (c .picture))
   where
     go : (b : Bool) → (cond b Ok (c .picture .state) ≡ NotOk) ⊎ (cond b Ok (c .picture .state) ≡ Ok)
@@ -185,7 +185,7 @@ Moved p e q = (countReply e + level (q .rows) ≤ level (p .rows)) × Going q
 
 moved-reply : (p : Picture) (e : Event) (c : Change) → respond p e ≡ change c → Formed e → isReply e ≡ true → p .state ≡ NotOk
     → Moved p (some e) (pictureOf c)
-unfolding pictureOf settled withState withDelay countReply
+unfolding pictureOf ended settled withState withDelay countReply
 moved-reply p e c q f i s =
     let l : level (c .picture .rows) < level (p .rows) = falls p e c q i f s in
     let g = subst (Always (λ (d : Change). isReply e ≡ true → p .state ≡ NotOk → d .picture .state ≡ NotOk)) q (in-every-way p _ (stays-ways p) e) i s in
@@ -203,7 +203,7 @@ moves p r s = go (offered-cases p r)
 
 -- an accepted START or NCE naming N positions begins at the bound
 begun : (p : Picture) (r : Record) (n : ℕ) → Names (accepted p r) n → (1 ≤ n) × (n ≤ maxNodes) × (level (next p r .rows) ≤ bound n) × Going (next p r)
-unfolding accepted ifTaken left bound pictureOf settled withState withDelay
+unfolding accepted ifTaken left bound pictureOf ended settled withState withDelay
 begun p r n = go (offered-cases p r)
   where
     named : (e : Event) → Formed e → Names (some e) n → (1 ≤ n) × (n ≤ maxNodes)

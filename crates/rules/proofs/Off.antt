@@ -8,7 +8,7 @@ use Rattle.laws.specs.Bools.{clash}
 use Rattle.rules.specs.Picture.{State, Off, NotOk, Ok, Picture, withRows, withState, withDelay, fresh}
 use Rattle.rules.specs.Event.{Event, ANSWER, NONE, DELAY}
 use Rattle.rules.specs.Step.{Change, scanned, scan, begin, shutDown, changeRows, delayEnds, keepAnswer, takes}
-use Rattle.rules.specs.Ending.{becomesOk, settled, pictureOf}
+use Rattle.rules.specs.Ending.{becomesOk, settled, ended, pictureOf}
 use Rattle.rules.specs.Run.{Record, Sent}
 use Rattle.rules.specs.Listing.{entriesFrom, listing}
 use Rattle.rules.specs.Claims.{pictureAt, EmptyInOff}
@@ -53,7 +53,7 @@ settled-bare p h s = go (becomesOk p) s
 
 -- every taken event
 bare-taken : Keeps (λ (p : Picture) (sent : List Sent). Bare p)
-unfolding pictureOf withDelay
+unfolding pictureOf ended withDelay
 bare-taken p sent e c h t q f = settled-bare (c .picture) (subst (Always (λ (b : Change). takes (p .state) e ≡ true → Bare (b .picture))) q (in-every-way p _ (off-ways p) e) t)
 
 pub emptyInOff : (l : ℕ) (rs : List Record) → EmptyInOff l rs

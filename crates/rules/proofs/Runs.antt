@@ -16,7 +16,7 @@ use Rattle.rules.specs.House.{minSize, maxSize}
 use Rattle.rules.specs.Picture.{State, Off, NotOk, Ok, isNotOk, Picture, withState, withDelay, isOpen, openAt, legalSize, fresh}
 use Rattle.rules.specs.Order.{Order}
 use Rattle.rules.specs.Step.{Change}
-use Rattle.rules.specs.Ending.{becomesOk, settled, okOrder, told, waitOrder, ordersOf, pictureOf}
+use Rattle.rules.specs.Ending.{becomesOk, settled, told, ended, endOrders, ordersOf, pictureOf}
 use Rattle.rules.specs.Run.{sentWith, Sent}
 use Rattle.rules.specs.Claims.{isFor, later, questionPass}
 use Rattle.rules.proofs.Ways.{Always, in-every-way}
@@ -63,13 +63,9 @@ orders-ask p c x h = go (or-cases (asksFor (c .first) x) (asksFor (c .set) x) (s
     t : List Order
     t = told p (c .picture)
 
-    o : List Order
-    o = okOrder (c .picture)
-
-    go : (asksFor (c .first) x ≡ true) ⊎ (asksFor (c .set) x ≡ true)
-        → asksFor (c .first ++ t ++ c .set ++ o ++ waitOrder (settled (c .picture))) x ≡ true
-    go (inl e) = any-left f _ (waitOrder (settled (c .picture))) (any-left f (c .first ++ t ++ c .set) o (any-left f (c .first ++ t) (c .set) (any-left f (c .first) t e)))
-    go (inr e) = any-left f _ (waitOrder (settled (c .picture))) (any-left f (c .first ++ t ++ c .set) o (any-right f (c .first ++ t) (c .set) e))
+    go : (asksFor (c .first) x ≡ true) ⊎ (asksFor (c .set) x ≡ true) → asksFor (ordersOf p c) x ≡ true
+    go (inl e) = any-left f (c .first ++ t ++ c .set) (endOrders (c .picture)) (any-left f (c .first ++ t) (c .set) (any-left f (c .first) t e))
+    go (inr e) = any-left f (c .first ++ t ++ c .set) (endOrders (c .picture)) (any-right f (c .first ++ t) (c .set) e)
 
 -- a picture of a run, with the orders given out so far
 pub record Running (p : Picture) (sent : List Sent) : Type 0 where
@@ -108,7 +104,7 @@ settled-waits p h = go (p .state) (any isOpen (p .rows)) h
 
 -- every taken event
 pub running-taken : Keeps Running
-unfolding pictureOf settled withState withDelay openAt later
+unfolding pictureOf ended settled withState withDelay openAt later
 running-taken p sent e c r t h f =
     record { sound = record { rows = sound .rows; pass = sound .pass; size = sound .size }; waits = settled-waits (c .picture); current = current }
   where

@@ -19,7 +19,7 @@ use Rattle.rules.specs.Event.{Event, two, four}
 use Rattle.rules.specs.Order.{Order, ASK, SET, OK, NOTOK, NEW, INVALID, WAIT-SHORT, WAIT-LONG, kindOf, bodyOf, encode, encodeAll}
 use Rattle.rules.specs.Renumber.{judge, goods, Renumbering, finished, renumbers}
 use Rattle.rules.specs.Step.{Change, change, respond, asks, scanned, scan, begin, shutDown, changeRows, silenced, asked, delayEnds, ignored, counted, onCounted, setOrder, judgedFor, renumberingFor, listedRow, keepAnswer}
-use Rattle.rules.specs.Ending.{becomesOk, settled, okOrder, missing, packed, tell, lost, gained, tellRows, told, waits, waitOrder, ordersOf}
+use Rattle.rules.specs.Ending.{becomesOk, settled, okOrder, missing, packed, tell, lost, gained, tellRows, told, waits, waitOrder, endOrders, ordersOf}
 use Rattle.rules.proofs.Ways.{Ways, Seated, Keepers, Always, in-every-way}
 use Rattle.rules.proofs.Pairs.{same-self, goods-few}
 use Rattle.rules.proofs.Sound.{Apart, RowsApart, RowProper, Proper, SoundRows, Sound, Formed, kept-after, length-counted}
@@ -326,15 +326,16 @@ open-no-wait p h = cond-false _ [] (ap (λ (b : Bool). isOk (settled p .state) &
     go true = refl
     go false = refl
 
-ending-open : (p : Picture) → any isOpen (p .rows) ≡ true → total sizeOf (okOrder p) + total sizeOf (waitOrder (settled p)) ≡ 0
-unfolding total
+ending-open : (p : Picture) → any isOpen (p .rows) ≡ true → total sizeOf (endOrders p) ≡ 0
+unfolding endOrders total
 ending-open p h = rw (open-no-ok p h, open-no-wait p h)
 
-ending-size : (p : Picture) → total sizeOf (okOrder p) + total sizeOf (waitOrder (settled p)) ≤ 14
-ending-size p = let a = ok-size p in let b = wait-size (settled p) in omega arith
+ending-size : (p : Picture) → total sizeOf (endOrders p) ≤ 14
+unfolding endOrders
+ending-size p = let a = ok-size p in let b = wait-size (settled p) in rw total-append (omega arith)
 
 orders-size : (p : Picture) (c : Change) → total sizeOf (ordersOf p c)
-    ≡ total sizeOf (c .first) + total sizeOf (told p (c .picture)) + total sizeOf (c .set) + total sizeOf (okOrder (c .picture)) + total sizeOf (waitOrder (settled (c .picture)))
+    ≡ total sizeOf (c .first) + total sizeOf (told p (c .picture)) + total sizeOf (c .set) + total sizeOf (endOrders (c .picture))
 unfolding ordersOf
 orders-size p c = simp total-append
 
@@ -362,7 +363,7 @@ scan-size p first rows h l =
     go (decide (any isOpen rows)) o t a
   where
     go : (any isOpen rows ≡ true) ⊎ (any isOpen rows ≡ false)
-        → total sizeOf (ordersOf p (scan first rows p)) ≡ total sizeOf (first ++ asks isOpen 1 rows) + total sizeOf (told p (scanned rows p)) + total sizeOf [] + total sizeOf (okOrder (scanned rows p)) + total sizeOf (waitOrder (settled (scanned rows p)))
+        → total sizeOf (ordersOf p (scan first rows p)) ≡ total sizeOf (first ++ asks isOpen 1 rows) + total sizeOf (told p (scanned rows p)) + total sizeOf [] + total sizeOf (endOrders (scanned rows p))
         → total sizeOf (told p (scanned rows p)) ≡ total sizeOf []
         → total sizeOf (first ++ asks isOpen 1 rows) ≡ total sizeOf first + total sizeOf (asks isOpen 1 rows)
         → total sizeOf (ordersOf p (scan first rows p)) ≤ largest
@@ -433,7 +434,7 @@ delay-size p h = go (decide (any isSilent (p .rows)))
     q : Picture
     q = record { state = p .state; pass = p .pass; size = p .size; delay = false; rows = map asked (p .rows) }
 
-    size : total sizeOf (ordersOf p (delayEnds p)) ≤ total sizeOf (asks isSilent 1 (p .rows)) + (total sizeOf (okOrder q) + total sizeOf (waitOrder (settled q)))
+    size : total sizeOf (ordersOf p (delayEnds p)) ≤ total sizeOf (asks isSilent 1 (p .rows)) + total sizeOf (endOrders q)
     size =
         let o = orders-size p (delayEnds p) in
         let t = told-size p q in

@@ -20,7 +20,7 @@ use Rattle.rules.specs.Step.{Change, asks, scan, begin, shutDown, change
 use Rattle.rules.specs.Ending.{becomesOk, waits, okOrder, tell, packed, lost, gained, tellRows, told, waitOrder, settled, ended, endOrders, ordersOf, pictureOf}
 use Rattle.rules.specs.Run.{Outcome, Record, left, Sent, sentWith, sentBy}
 use Rattle.rules.specs.Claims.{ifTaken, accepted, SetAimed, Aimed, SetsAimed}
-use Rattle.rules.proofs.Ways.{Ways, Seated, Always, in-every-way, Offered, was-refused, was-taken, offered-cases}
+use Rattle.rules.proofs.Ways.{Ways, Seated, every-taken, Offered, was-refused, was-taken, offered-cases}
 use Rattle.rules.proofs.Sound.{kept-after}
 use Rattle.rules.proofs.Questions.{row-in}
 use Rattle.rules.proofs.Pairs.{same-self}
@@ -264,4 +264,4 @@ setsAimed p r = record { aimed = go (offered-cases p r) }
     go was-refused = all-nil
     go (was-taken {c} e d m t q) =
         subst (λ (z : Option Event). All (λ (s : Sent). Aimed z (pictureOf c) (s .order)) (map (sentWith (pictureOf c .pass)) (ordersOf p c))) (sym d)
-        (sent (some e) (pictureOf c) (pictureOf c .pass) (ordersOf p c) (subst (Always (λ (b : Change). All (Aimed (some e) (pictureOf b)) (ordersOf p b))) q (in-every-way p _ (aimed-ways p) e)))
+        (sent (some e) (pictureOf c) (pictureOf c .pass) (ordersOf p c) (every-taken p _ (aimed-ways p) e c q))

@@ -17,7 +17,7 @@ use Rattle.rules.specs.Step.{Change, scanned, scan, begin, shutDown, cha
 use Rattle.rules.specs.Ending.{settled, ended, pictureOf}
 use Rattle.rules.specs.Run.{Record, Sent}
 use Rattle.rules.specs.Claims.{pictureAt, Unbarred}
-use Rattle.rules.proofs.Ways.{Ways, Seated, Cleared, Always, in-every-way}
+use Rattle.rules.proofs.Ways.{Ways, Seated, Cleared, every-taken}
 use Rattle.rules.proofs.Along.{Keeps, along}
 use Rattle.rules.proofs.Sound.{kept-after, each-counted}
 
@@ -221,7 +221,7 @@ module _ (p : Picture) (h : Pairwise BothClear (p .rows)) where
 -- every taken event
 clear-taken : Keeps (λ (p : Picture) (sent : List Sent). Pairwise BothClear (p .rows))
 unfolding pictureOf ended settled withState withDelay
-clear-taken p sent e c h t q f = subst (Always (λ (b : Change). Pairwise BothClear (b .picture .rows))) q (in-every-way p _ (clear-ways p h) e)
+clear-taken p sent e c h t q f = every-taken p _ (clear-ways p h) e c q
 
 -- at every two positions
 clear-at : (rows : List Row) (i j : ℕ) → Pairwise BothClear rows → Clear (getD rows i noRow) (getD rows j noRow)

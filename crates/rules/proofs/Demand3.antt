@@ -22,7 +22,7 @@ use Rattle.rules.specs.Step.{Change, Response, change, refuseIf, scanned
 use Rattle.rules.specs.Ending.{becomesOk, settled, ended, pictureOf}
 use Rattle.rules.specs.Run.{Outcome, onEvent, onDecoded, concluded, step, Record, offered, left, sentBy, Sent, next, after, history}
 use Rattle.rules.specs.Claims.{Exists8, ifTaken, accepted, isReply, countReply, repliesIn, pictureAt, sentAt, recordAt, repliesBetween, Awaits, Names, Allowed, bound, Reaches, arrives, holdsFewer, Demand3}
-use Rattle.rules.proofs.Ways.{Ways, Always, in-every-way, Offered, was-refused, was-taken, offered-cases}
+use Rattle.rules.proofs.Ways.{Ways, every-taken, Offered, was-refused, was-taken, offered-cases}
 use Rattle.rules.proofs.Sound.{Sound, Formed}
 use Rattle.rules.proofs.Decode.{formed, decode-encode}
 use Rattle.rules.proofs.Measure.{work, level, open-work, falls, level-begins}
@@ -188,7 +188,7 @@ moved-reply : (p : Picture) (e : Event) (c : Change) → respond p e ≡ change 
 unfolding pictureOf ended settled withState withDelay countReply
 moved-reply p e c q f i s =
     let l : level (c .picture .rows) < level (p .rows) = falls p e c q i f s in
-    let g = subst (Always (λ (d : Change). isReply e ≡ true → p .state ≡ NotOk → d .picture .state ≡ NotOk)) q (in-every-way p _ (stays-ways p) e) i s in
+    let g = every-taken p _ (stays-ways p) e c q i s in
     (rw i (omega arith), settled-goes c g)
 
 moves : (p : Picture) (r : Record) → p .state ≡ NotOk → Allowed p (accepted p r) → Moved p (accepted p r) (next p r)
@@ -218,7 +218,7 @@ begun p r n = go (offered-cases p r)
         → (1 ≤ n) × (n ≤ maxNodes) × (level (pictureOf c .rows) ≤ bound n) × Going (pictureOf c)
     start e c q f h =
         let k = named e f h in
-        let b = subst (Always (λ (d : Change). Names (some e) n → (d .picture .state ≡ NotOk) × (d .picture .rows ≡ replicate (n - 1) newRow))) q (in-every-way p _ (begins-ways p n) e) h in
+        let b = every-taken p _ (begins-ways p n) e c q h in
         let l : level (c .picture .rows) ≡ suc (maxPairs * maxTries) * (n - 1) * (2 * n - 1) = ap level (b .1) ∙ level-begins n (k .0) in
         (k .0, k .1, omega arith, settled-goes c (b .0))
 

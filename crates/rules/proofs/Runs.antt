@@ -1,7 +1,7 @@
 -- What holds after every record of every list: the picture is sound, NOTOK waits for a question, every open question is of the
 -- current pass.
 use Prim.Native.Nat.{ℕ, _≤_}
-use mathlib.Core.Path.{_≡_, refl, sym, _∙_, ap, subst}
+use mathlib.Core.Path.{_≡_, refl, sym, _∙_, ap}
 use mathlib.Core.Bool.{Bool, true, false, cond, not, _&&_, _||_}
 use mathlib.Core.List.{List, [], _∷_, _++_, map}
 use mathlib.Core.Option.{Option, none, some}
@@ -19,8 +19,8 @@ use Rattle.rules.specs.Step.{Change}
 use Rattle.rules.specs.Ending.{becomesOk, settled, told, ended, endOrders, ordersOf, pictureOf}
 use Rattle.rules.specs.Run.{sentWith, Sent}
 use Rattle.rules.specs.Claims.{isFor, later, questionPass}
-use Rattle.rules.proofs.Ways.{Always, in-every-way}
-use Rattle.rules.proofs.Sound.{Sound, Formed, sound-ways, no-rows}
+use Rattle.rules.proofs.Ways.{every-taken}
+use Rattle.rules.proofs.Sound.{Sound, sound-ways, no-rows}
 use Rattle.rules.proofs.Along.{Keeps}
 use Rattle.rules.proofs.Questions.{asksFor, Asked, asked-ways, nothing-open}
 
@@ -109,10 +109,10 @@ running-taken p sent e c r t h f =
     record { sound = record { rows = sound .rows; pass = sound .pass; size = sound .size }; waits = settled-waits (c .picture); current = current }
   where
     sound : Sound (c .picture)
-    sound = subst (Always (λ (d : Change). Formed e → Sound (d .picture))) h (in-every-way p _ (sound-ways p (r .sound)) e) f
+    sound = every-taken p _ (sound-ways p (r .sound)) e c h f
 
     asked : (x : ℕ) → openAt (c .picture) x ≡ true → Asked p c x
-    asked = subst (Always (λ (d : Change). (x : ℕ) → openAt (d .picture) x ≡ true → Asked p d x)) h (in-every-way p _ (asked-ways p) e)
+    asked = every-taken p _ (asked-ways p) e c h
 
     pass : ℕ
     pass = c .picture .pass

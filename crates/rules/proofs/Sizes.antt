@@ -20,7 +20,7 @@ use Rattle.rules.specs.Order.{Order, ASK, SET, OK, NOTOK, NEW, INVALID, 
 use Rattle.rules.specs.Renumber.{judge, goods, Renumbering, finished, renumbers}
 use Rattle.rules.specs.Step.{Change, change, respond, asks, scanned, scan, begin, shutDown, changeRows, silenced, asked, delayEnds, ignored, counted, onCounted, setOrder, judgedFor, renumberingFor, listedRow, keepAnswer}
 use Rattle.rules.specs.Ending.{becomesOk, settled, okOrder, missing, packed, tell, lost, gained, tellRows, told, waits, waitOrder, endOrders, ordersOf}
-use Rattle.rules.proofs.Ways.{Ways, Seated, Keepers, Always, in-every-way}
+use Rattle.rules.proofs.Ways.{Ways, Seated, Keepers, every-taken}
 use Rattle.rules.proofs.Pairs.{same-self, goods-few}
 use Rattle.rules.proofs.Sound.{Apart, RowsApart, RowProper, Proper, SoundRows, Sound, Formed, kept-after, length-counted}
 use Rattle.rules.proofs.Decode.{pairs-length}
@@ -477,4 +477,4 @@ module _ (p : Picture) (h : Sound p) where
 
 -- every taken event
 pub size-largest : (p : Picture) → Sound p → (e : Event) (c : Change) → respond p e ≡ change c → Formed e → total sizeOf (ordersOf p c) ≤ largest
-size-largest p h e c q = subst (Always (λ (d : Change). Formed e → total sizeOf (ordersOf p d) ≤ largest)) q (in-every-way p _ (size-ways p h) e)
+size-largest p h = every-taken p _ (size-ways p h)

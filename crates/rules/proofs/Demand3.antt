@@ -12,7 +12,7 @@ use lib.Dec.{eqb, ltb, eqb·suc-zero}
 use lib.ListN.{length, getD, take, drop, replicate, length-take, length-drop, List·getD-eq-default}
 use lib.Seq.{take-add, take-suc, take-take, getD-take, getD-drop}
 use Rattle.laws.specs.Lists.{any}
-use Rattle.laws.specs.Bools.{clash, decide, or-false, or-right}
+use Rattle.laws.specs.Bools.{clash, or-false, or-right, refute}
 use Rattle.laws.specs.Alls.{All, all-nil, all-cons, any-found}
 use Rattle.laws.specs.Sums.{total-at}
 use Rattle.rules.specs.House.{minRoom, maxNodes, maxPairs, maxTries}
@@ -34,11 +34,10 @@ use Rattle.rules.proofs.Distinct.{sound-distinct}
 open-seated : (p : Picture) (x : ℕ) → openAt p x ≡ true → (noPosition p x ≡ false) × (isOpen (seatAt (p .rows) x .row) ≡ true)
 unfolding openAt rowAt noPosition seatAt isOpen noRow isOpenStatus
 open-seated p zero h = clash h refl
-open-seated p (suc i) h = (or-false (eqb (suc i) 0) (ltb (length (p .rows)) (suc i)) (eqb·suc-zero i) (go (decide (ltb (length (p .rows)) (suc i)))), h)
+open-seated p (suc i) h = (or-false (eqb (suc i) 0) (ltb (length (p .rows)) (suc i)) (eqb·suc-zero i) (refute (ltb (length (p .rows)) (suc i)) beyond), h)
   where
-    go : (ltb (length (p .rows)) (suc i) ≡ true) ⊎ (ltb (length (p .rows)) (suc i) ≡ false) → ltb (length (p .rows)) (suc i) ≡ false
-    go (inl e) = clash h (ap isOpen (List·getD-eq-default (p .rows) noRow (le-of-suc-le-suc (ltb-true _ _ e))))
-    go (inr e) = e
+    beyond : ltb (length (p .rows)) (suc i) ≡ true → ltb (length (p .rows)) (suc i) ≡ false
+    beyond e = clash h (ap isOpen (List·getD-eq-default (p .rows) noRow (le-of-suc-le-suc (ltb-true _ _ e))))
 
 open-heard : (r : Row) → isOpen r ≡ true → isIgnored r ≡ false
 unfolding isOpen isIgnored isOpenStatus isIgnoredStatus

@@ -9,7 +9,7 @@ use borrow.Author.Tests.{eqb-true}
 use lib.Dec.{ltb}
 use lib.ListN.{length, take, drop, length-append, length-take, length-drop, length-replicate, length-map}
 use Rattle.laws.specs.Lists.{any, select, collect}
-use Rattle.laws.specs.Bools.{clash, decide, or-cases, cond-true, cond-false, or-true-left, or-true-right}
+use Rattle.laws.specs.Bools.{clash, decide, and-none, or-cases, cond-true, cond-false, or-true-left, or-true-right}
 use Rattle.laws.specs.Alls.{All, all-nil, all-cons, all-head, all-tail, all-map, all-seat, all-out, Pairwise, pairwise-head, pairwise-tail, pairwise-out, any-none}
 use Rattle.laws.specs.Sums.{total, total-append}
 use Rattle.rules.specs.House.{maxNodes, maxPairs, maxSilences}
@@ -22,7 +22,7 @@ use Rattle.rules.specs.Step.{Change, change, respond, asks, scanned, sca
 use Rattle.rules.specs.Ending.{becomesOk, settled, okOrder, missing, packed, tell, lost, gained, tellRows, told, waits, waitOrder, endOrders, ordersOf}
 use Rattle.rules.proofs.Ways.{Ways, Seated, Keepers, every-taken}
 use Rattle.rules.proofs.Pairs.{same-self, goods-few}
-use Rattle.rules.proofs.Sound.{Apart, RowsApart, RowProper, Proper, SoundRows, Sound, Formed, kept-after, length-counted}
+use Rattle.rules.proofs.Sound.{Apart, RowsApart, RowProper, Proper, SoundRows, Sound, Formed, kept-after, length-counted, split-rows}
 use Rattle.rules.proofs.Decode.{pairs-length}
 
 -- how many bytes an order has
@@ -312,19 +312,14 @@ wait-size p = go (waits p) (any (λ (r : Row). isSilent r && ltb (r .silences) m
 
 open-no-ok : (p : Picture) → any isOpen (p .rows) ≡ true → okOrder p ≡ []
 unfolding okOrder becomesOk
-open-no-ok p h = cond-false (OK ∷ []) [] (ap (λ (b : Bool). isNotOk (p .state) && not b) h ∙ go (isNotOk (p .state)))
-  where
-    go : (b : Bool) → b && false ≡ false
-    go true = refl
-    go false = refl
+open-no-ok p h = cond-false (OK ∷ []) [] (ap (λ (b : Bool). isNotOk (p .state) && not b) h ∙ and-none (isNotOk (p .state)))
 
 open-no-wait : (p : Picture) → any isOpen (p .rows) ≡ true → waitOrder (settled p) ≡ []
 unfolding waitOrder waits settled withState
-open-no-wait p h = cond-false _ [] (ap (λ (b : Bool). isOk (settled p .state) && not b && any isSilent (p .rows) && not (p .delay)) h ∙ go (isOk (settled p .state)))
-  where
-    go : (b : Bool) → b && false && any isSilent (p .rows) && not (p .delay) ≡ false
-    go true = refl
-    go false = refl
+open-no-wait p h =
+    cond-false _ []
+    (ap (λ (b : Bool). isOk (settled p .state) && not b && any isSilent (p .rows) && not (p .delay)) h
+    ∙ ap (λ (b : Bool). b && any isSilent (p .rows) && not (p .delay)) (and-none (isOk (settled p .state))))
 
 ending-open : (p : Picture) → any isOpen (p .rows) ≡ true → total sizeOf (endOrders p) ≡ 0
 unfolding endOrders total
@@ -343,15 +338,12 @@ orders-size p c = simp total-append
 abbrev pub largest : ℕ
 largest = 511
 
--- a new pass: NOTOK and an ASK for each row
-told-none : (p c : Picture) → isOk (c .state) ≡ false → told p c ≡ []
+-- where OK is left nothing is told
+pub told-none : (p c : Picture) → isOk (c .state) ≡ false → told p c ≡ []
 unfolding told
-told-none p c h = cond-false _ [] (ap (λ (b : Bool). isOk (p .state) && b) h ∙ go (isOk (p .state)))
-  where
-    go : (b : Bool) → b && false ≡ false
-    go true = refl
-    go false = refl
+told-none p c h = cond-false _ [] (ap (λ (b : Bool). isOk (p .state) && b) h ∙ and-none (isOk (p .state)))
 
+-- a new pass: NOTOK and an ASK for each row
 scan-size : (p : Picture) (first : List Order) (rows : List Row) → total sizeOf first ≤ 7 → suc (length rows) ≤ maxNodes
     → total sizeOf (ordersOf p (scan first rows p)) ≤ largest
 unfolding scan scanned isOk total
@@ -453,12 +445,9 @@ module _ (p : Picture) (h : Sound p) where
       → changes lost (p .rows) rows + changes gained (p .rows) rows ≤ 2 * maxPairs
   onto c x s rows k = subst (λ (l : List Row). changes lost l rows + changes gained l rows ≤ 2 * maxPairs) (sym (s .split)) k
 
-  seat-sound : (c x : ℕ) → Seated p c x → SoundRows (put (seatAt (p .rows) x) (seatAt (p .rows) x .row))
-  seat-sound c x s = subst SoundRows (s .split) (h .rows)
-
   seat-proper : (c x : ℕ) → Seated p c x → RowProper (seatAt (p .rows) x .row)
   unfolding put
-  seat-proper c x s = all-seat (seatAt (p .rows) x .front) (seatAt (p .rows) x .row) (seatAt (p .rows) x .back) (seat-sound c x s .proper)
+  seat-proper c x s = all-seat (seatAt (p .rows) x .front) (seatAt (p .rows) x .row) (seatAt (p .rows) x .back) (split-rows p h c x s .proper)
 
   size-ways : Ways p (λ (e : Event) (c : Change). Formed e → total sizeOf (ordersOf p c) ≤ largest)
   unfolding begin scan shutDown changeRows withRows keepAnswer total sizeOf
@@ -470,8 +459,8 @@ module _ (p : Picture) (h : Sound p) where
         silences = λ c x s o f. rows-size p _ refl (omega arith) (onto c x s _ (put-changes _ _ (seat-proper c x s) (omega (arith, ap length (silenced-pairs (seatAt (p .rows) x .row))))));
         delays = λ c d f. delay-size p (h .rows .few);
         bars = λ c x a ps s o z f. rows-size p _ refl (omega arith) (onto c x s _ (put-changes _ _ (seat-proper c x s) (omega (arith, ap length (ignored-pairs a (seatAt (p .rows) x .row))))));
-        ignores = λ c x a ps s o counts k z f. rows-size p _ refl (omega arith) (onto c x s _ (counted-changes a counts k _ (seat-sound c x s)));
-        restarts = λ c x a ps s o counts b l f. scan-size p (NOTOK ∷ []) _ (omega arith) (rw length-map (omega (arith, seat-sound c x s .few, length-counted counts counted (seatAt (p .rows) x))));
+        ignores = λ c x a ps s o counts k z f. rows-size p _ refl (omega arith) (onto c x s _ (counted-changes a counts k _ (split-rows p h c x s)));
+        restarts = λ c x a ps s o counts b l f. scan-size p (NOTOK ∷ []) _ (omega arith) (rw length-map (omega (arith, split-rows p h c x s .few, length-counted counts counted (seatAt (p .rows) x))));
         keeps = λ c x a ps s o k f. rows-size p _ refl (set-size x a _) (onto c x s _ (put-changes _ _ (seat-proper c x s) (omega (arith, f, listed-pairs (seatAt (p .rows) x) a ps))));
       }
 

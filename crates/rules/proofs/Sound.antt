@@ -167,7 +167,7 @@ new-rows n l m = record { few = rw length-replicate (omega arith); apart = pairw
 
 module _ (p : Picture) (h : Sound p) where
   module _ (c x : ℕ) (s : Seated p c x) where
-    split-rows : SoundRows (put (seatAt (p .rows) x) (seatAt (p .rows) x .row))
+    pub split-rows : SoundRows (put (seatAt (p .rows) x) (seatAt (p .rows) x .row))
     split-rows = subst SoundRows (s .split) (h .rows)
 
     sound-put : (r : Row) → Sheds (seatAt (p .rows) x .row) r → SoundRows (put (seatAt (p .rows) x) r)

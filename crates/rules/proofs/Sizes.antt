@@ -12,7 +12,7 @@ use Rattle.laws.specs.Lists.{any, select, collect}
 use Rattle.laws.specs.Bools.{clash, decide, and-none, or-cases, cond-true, cond-false, or-true-left, or-true-right}
 use Rattle.laws.specs.Alls.{All, all-nil, all-cons, all-head, all-tail, all-map, all-seat, all-out, Pairwise, pairwise-head, pairwise-tail, pairwise-out, any-none}
 use Rattle.laws.specs.Sums.{total, total-append}
-use Rattle.rules.specs.House.{maxNodes, maxPairs, maxSilences}
+use Rattle.rules.specs.House.{maxNodes, maxUnits, maxPairs, maxSilences}
 use Rattle.rules.specs.Picture.{isNotOk, isOk, Pair, samePair, holds, Status, WAITING, SETTING, LISTED, SILENT, IGNORED, Row, Picture, withStatus, withRows, withState}
 use Rattle.rules.specs.Picture.{Kept, nothing, kept, keptBy, keptIn, pairsOf, pairsIn, hasAddress, keeps, isOpen, isOpenStatus, isSilent, isSilentStatus, Seat, seatAt, others, put}
 use Rattle.rules.specs.Event.{Event, two, four}
@@ -334,6 +334,16 @@ orders-size : (p : Picture) (c : Change) → total sizeOf (ordersOf p c)
 unfolding ordersOf
 orders-size p c = simp total-append
 
+-- ASKs and the ending: where a row is asked, a question is open and the ending writes nothing
+asks-end : (f : Row → Bool) (rows : List Row) (q : Picture) → suc (length rows) ≤ maxNodes → (any f rows ≡ true → any isOpen (q .rows) ≡ true)
+    → total sizeOf (asks f 1 rows) + total sizeOf (endOrders q) ≤ 8 * maxUnits
+unfolding total
+asks-end f rows q l h = go (decide (any f rows))
+  where
+    go : (any f rows ≡ true) ⊎ (any f rows ≡ false) → total sizeOf (asks f 1 rows) + total sizeOf (endOrders q) ≤ 8 * maxUnits
+    go (inl e) = omega (arith, asks-size f 1 rows, ending-open q (h e))
+    go (inr e) = omega (arith, ap (total sizeOf) (asks-none f 1 rows e), ending-size q)
+
 -- the largest event has 511 bytes
 abbrev pub largest : ℕ
 largest = 511
@@ -348,19 +358,11 @@ scan-size : (p : Picture) (first : List Order) (rows : List Row) → total sizeO
     → total sizeOf (ordersOf p (scan first rows p)) ≤ largest
 unfolding scan scanned isOk total
 scan-size p first rows h l =
-    let c = scan first rows p in
-    let o = orders-size p c in
+    let o = orders-size p (scan first rows p) in
     let t = ap (total sizeOf) (told-none p (scanned rows p) refl) in
     let a = total-append sizeOf first (asks isOpen 1 rows) in
-    go (decide (any isOpen rows)) o t a
-  where
-    go : (any isOpen rows ≡ true) ⊎ (any isOpen rows ≡ false)
-        → total sizeOf (ordersOf p (scan first rows p)) ≡ total sizeOf (first ++ asks isOpen 1 rows) + total sizeOf (told p (scanned rows p)) + total sizeOf [] + total sizeOf (endOrders (scanned rows p))
-        → total sizeOf (told p (scanned rows p)) ≡ total sizeOf []
-        → total sizeOf (first ++ asks isOpen 1 rows) ≡ total sizeOf first + total sizeOf (asks isOpen 1 rows)
-        → total sizeOf (ordersOf p (scan first rows p)) ≤ largest
-    go (inl e) o t a = let b = asks-size isOpen 1 rows in let z = ending-open (scanned rows p) e in omega arith
-    go (inr e) o t a = let b = ap (total sizeOf) (asks-none isOpen 1 rows e) in let z = ending-size (scanned rows p) in omega arith
+    let e = asks-end isOpen rows (scanned rows p) l (λ k. k) in
+    omega arith
 
 -- rows that change in place: what is told, a SET and the ending
 rows-size : (p : Picture) (c : Change) → c .first ≡ [] → total sizeOf (c .set) ≤ 13
@@ -421,23 +423,15 @@ asked-gains r = rw asked-pairs (omega (arith, gained-same r))
 
 delay-size : (p : Picture) → suc (length (p .rows)) ≤ maxNodes → total sizeOf (ordersOf p (delayEnds p)) ≤ largest
 unfolding delayEnds total
-delay-size p h = go (decide (any isSilent (p .rows)))
-  where
-    q : Picture
-    q = record { state = p .state; pass = p .pass; size = p .size; delay = false; rows = map asked (p .rows) }
-
-    size : total sizeOf (ordersOf p (delayEnds p)) ≤ total sizeOf (asks isSilent 1 (p .rows)) + total sizeOf (endOrders q)
-    size =
-        let o = orders-size p (delayEnds p) in
-        let t = told-size p q in
-        let l = changes-map lost (λ (r : Row). 0) asked asked-loses (p .rows) in
-        let g = changes-map gained (λ (r : Row). 0) asked asked-gains (p .rows) in
-        let z = total-zero (p .rows) in
-        omega arith
-
-    go : (any isSilent (p .rows) ≡ true) ⊎ (any isSilent (p .rows) ≡ false) → total sizeOf (ordersOf p (delayEnds p)) ≤ largest
-    go (inl e) = let b = asks-size isSilent 1 (p .rows) in let z = ending-open q (silent-opens (p .rows) e) in omega (arith, size)
-    go (inr e) = let b = ap (total sizeOf) (asks-none isSilent 1 (p .rows) e) in let z = ending-size q in omega (arith, size)
+delay-size p h =
+    let q = delayEnds p .picture in
+    let o = orders-size p (delayEnds p) in
+    let t = told-size p q in
+    let l = changes-map lost (λ (r : Row). 0) asked asked-loses (p .rows) in
+    let g = changes-map gained (λ (r : Row). 0) asked asked-gains (p .rows) in
+    let z = total-zero (p .rows) in
+    let e = asks-end isSilent (p .rows) q h (silent-opens (p .rows)) in
+    omega arith
 
 module _ (p : Picture) (h : Sound p) where
   onto : (c x : ℕ) → Seated p c x → (rows : List Row)

@@ -7,6 +7,7 @@ ghost use Rattle.registry.specs.View.{viewOf};
 ghost use Rattle.registry.specs.Outcome.{Ends};
 use super::image::RegistryImage;
 use super::record::Recorded;
+use numbers::DONE;
 use ring_entries::outlook;
 
 impl RegistryImage {
@@ -34,7 +35,7 @@ impl RegistryImage {
         let next = closed.delay;
         self.delay = next;
         Recorded {
-            number: 0,
+            number: DONE,
             length: closed.end,
             picture: self,
         }

@@ -5,11 +5,11 @@ mod help;
 mod order_lines;
 mod show;
 
-ghost use Rattle.registry.specs.View.{viewOf};
-ghost use Rattle.registry.specs.Outcome.{Reached};
+ghost use Rattle.registry.specs.Outcome.{HandedOut};
 use command::Command;
 use command::MAX_RECORD;
 use command::MAX_ROOM;
+use numbers::DONE;
 use registry::image::RegistryImage;
 use text_answers::LineKind;
 use text_arguments::TOO_LONG;
@@ -32,8 +32,8 @@ struct Bench {
 
 // The bench with this output.
 fn with_output(bench: Bench, output: Output) -> Bench
-    requires { ⌜ Reached (viewOf (bench .picture)) ⌝ }
-    ensures { λ r. ⌜ Reached (viewOf (r .picture)) ⌝ }
+    requires { ⌜ HandedOut (bench .picture) ⌝ }
+    ensures { λ r. ⌜ HandedOut (r .picture) ⌝ }
 {
     let picture = bench.picture;
     Bench {
@@ -45,7 +45,7 @@ fn with_output(bench: Bench, output: Output) -> Bench
 
 // A fresh picture for L.
 fn fresh(bench: Bench, text: &mut [u8; SPACE], l: usize) -> Bench
-    ensures { λ r. ⌜ Reached (viewOf (r .picture)) ⌝ }
+    ensures { λ r. ⌜ HandedOut (r .picture) ⌝ }
 {
     let output = bench.output;
     let values = [l];
@@ -55,7 +55,7 @@ fn fresh(bench: Bench, text: &mut [u8; SPACE], l: usize) -> Bench
     let picture = made.picture;
     let number = answer.number();
     let room = bench.room;
-    if number != 0 {
+    if number != DONE {
         let refused = text_answers::refusal(asked, text, number);
         return Bench {
             picture,
@@ -73,8 +73,8 @@ fn fresh(bench: Bench, text: &mut [u8; SPACE], l: usize) -> Bench
 
 // The order room lent from now on.
 fn room(bench: Bench, text: &mut [u8; SPACE], n: usize) -> Bench
-    requires { ⌜ Reached (viewOf (bench .picture)) ⌝ }
-    ensures { λ r. ⌜ Reached (viewOf (r .picture)) ⌝ }
+    requires { ⌜ HandedOut (bench .picture) ⌝ }
+    ensures { λ r. ⌜ HandedOut (r .picture) ⌝ }
 {
     let output = bench.output;
     let values = [n];
@@ -106,7 +106,7 @@ fn recorded_lines(
     number: u8,
     length: usize,
 ) -> Output {
-    if number != 0 {
+    if number != DONE {
         return text_answers::refusal(output, text, number);
     }
     let taken = output.line(text, b"= taken");
@@ -116,8 +116,8 @@ fn recorded_lines(
 
 // Offers a record with so much order room.
 fn offer(bench: Bench, text: &mut [u8; SPACE], record: &[u8], lent: &mut [u8]) -> Bench
-    requires { ⌜ Reached (viewOf (bench .picture)) ⌝ }
-    ensures { λ r. ⌜ Reached (viewOf (r .picture)) ⌝ }
+    requires { ⌜ HandedOut (bench .picture) ⌝ }
+    ensures { λ r. ⌜ HandedOut (r .picture) ⌝ }
 {
     let picture = bench.picture;
     let asked = echo(bench.output, text, record);
@@ -140,8 +140,8 @@ fn offer_if_fits(
     n: usize,
     orders: &mut [u8],
 ) -> Bench
-    requires { ⌜ Reached (viewOf (bench .picture)) ⌝ }
-    ensures { λ r. ⌜ Reached (viewOf (r .picture)) ⌝ }
+    requires { ⌜ HandedOut (bench .picture) ⌝ }
+    ensures { λ r. ⌜ HandedOut (r .picture) ⌝ }
 {
     let length = smaller(n, record.len());
     if fields::wider(&record[0..length], MAX_LINE - 2) {
@@ -153,8 +153,8 @@ fn offer_if_fits(
 
 // A line that is no command.
 fn not_understood(bench: Bench, text: &mut [u8; SPACE], line: &[u8], reason: u8) -> Bench
-    requires { ⌜ Reached (viewOf (bench .picture)) ⌝ }
-    ensures { λ r. ⌜ Reached (viewOf (r .picture)) ⌝ }
+    requires { ⌜ HandedOut (bench .picture) ⌝ }
+    ensures { λ r. ⌜ HandedOut (r .picture) ⌝ }
 {
     let output = bench.output;
     with_output(
@@ -205,8 +205,8 @@ fn obey(
     record: &mut [u8],
     orders: &mut [u8],
 ) -> Bench
-    requires { ⌜ Reached (viewOf (bench .picture)) ⌝ }
-    ensures { λ r. ⌜ Reached (viewOf (r .picture)) ⌝ }
+    requires { ⌜ HandedOut (bench .picture) ⌝ }
+    ensures { λ r. ⌜ HandedOut (r .picture) ⌝ }
 {
     let command = command::parse(line, record);
     match command {
@@ -230,8 +230,8 @@ fn answer(
     record: &mut [u8],
     orders: &mut [u8],
 ) -> Bench
-    requires { ⌜ Reached (viewOf (bench .picture)) ⌝ }
-    ensures { λ r. ⌜ Reached (viewOf (r .picture)) ⌝ }
+    requires { ⌜ HandedOut (bench .picture) ⌝ }
+    ensures { λ r. ⌜ HandedOut (r .picture) ⌝ }
 {
     let kind = text_answers::kind_of(line);
     match kind {
@@ -253,8 +253,8 @@ fn if_fits(
     record: &mut [u8],
     orders: &mut [u8],
 ) -> Bench
-    requires { ⌜ Reached (viewOf (bench .picture)) ⌝ }
-    ensures { λ r. ⌜ Reached (viewOf (r .picture)) ⌝ }
+    requires { ⌜ HandedOut (bench .picture) ⌝ }
+    ensures { λ r. ⌜ HandedOut (r .picture) ⌝ }
 {
     if line.len() < length {
         return not_understood(bench, text, line, TOO_LONG);
@@ -271,8 +271,8 @@ fn turn(
     record: &mut [u8; MAX_RECORD],
     orders: &mut [u8; MAX_ROOM],
 ) -> Bench
-    requires { ⌜ Reached (viewOf (bench .picture)) ⌝ }
-    ensures { λ r. ⌜ Reached (viewOf (r .picture)) ⌝ }
+    requires { ⌜ HandedOut (bench .picture) ⌝ }
+    ensures { λ r. ⌜ HandedOut (r .picture) ⌝ }
 {
     let next = if_fits(bench, text, line, length, record, orders);
     let output = next.output;

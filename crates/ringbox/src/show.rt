@@ -1,5 +1,6 @@
 // What a picture shows: state, listing, rows, and where a pair is listed.
 use super::order_lines;
+use numbers::DONE;
 use registry::image::RegistryImage;
 use ring_listing::Listing;
 use ring_lookup::Lookup;
@@ -83,7 +84,7 @@ pub fn listing(output: Output, text: &mut [u8; SPACE], listing: Listing) -> Outp
 // Where a pair is listed, or the refusal.
 pub fn found(output: Output, text: &mut [u8; SPACE], found: Lookup) -> Output {
     let number = found.number();
-    if number != 0 {
+    if number != DONE {
         return text_answers::refusal(output, text, number);
     }
     let position = found.position();

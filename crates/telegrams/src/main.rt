@@ -7,6 +7,7 @@ use command::Command;
 use command::MAX_BUFFER;
 use command::MAX_PAYLOAD;
 use command::MAX_TELEGRAM;
+use numbers::DONE;
 use tel_join_state::JoinAnswer;
 use tel_join_state::Reassembly;
 use text_answers::LineKind;
@@ -118,7 +119,7 @@ fn fill(desk: Desk, text: &mut [u8; SPACE], payload: &mut [u8], n: usize, seed: 
 fn counted(output: Output, text: &mut [u8; SPACE], payload: &[u8], l: usize) -> Output {
     let answer = tel_count::count(l, payload);
     let number = answer.number();
-    if number != 0 {
+    if number != DONE {
         return text_answers::refusal(output, text, number);
     }
     let values = [answer.telegrams()];

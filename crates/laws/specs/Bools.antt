@@ -26,6 +26,10 @@ pub and-false : (a b : Bool) → a ≡ true → a && b ≡ false → b ≡ false
 and-false true b p q = q
 and-false false b p q = clash p refl
 
+pub and-none : (b : Bool) → b && false ≡ false
+and-none true = refl
+and-none false = refl
+
 pub or-left : (a b : Bool) → a || b ≡ false → a ≡ false
 or-left true b h = clash refl h
 or-left false b h = refl
@@ -65,6 +69,11 @@ not-true false h = refl
 pub not-false : (b : Bool) → not b ≡ false → b ≡ true
 not-false true h = refl
 not-false false h = sym h
+
+-- what cannot be true is false
+pub refute : (b : Bool) → (b ≡ true → b ≡ false) → b ≡ false
+refute true f = f refl
+refute false f = refl
 
 module _ {ℓ} {A : Type 0} (P : A → Type ℓ) where
   -- a choice has the property if each of its sides has where it is taken

@@ -2,7 +2,7 @@
 use Prim.Native.Nat.{ℕ, _+_, _≤_}
 use mathlib.Core.Path.{_≡_, refl, sym, _∙_, ap, subst}
 use mathlib.Core.Bool.{Bool, true, false}
-use mathlib.Core.List.{List, _++_, append-assoc}
+use mathlib.Core.List.{List, _++_}
 use native.Mathlib.Omega.{arith}
 use lib.ListN.{length}
 use lib.Seq.{sets}
@@ -11,12 +11,12 @@ use Rattle.laws.specs.Buffers.{Wrote, wrote-along, wrote-length}
 use Rattle.rules.specs.Picture.{Picture, withState, withDelay}
 use Rattle.rules.specs.Order.{Order, encodeAll}
 use Rattle.rules.specs.Step.{Change, change}
-use Rattle.rules.specs.Ending.{settled, okOrder, waitOrder, told, ordersOf, pictureOf}
+use Rattle.rules.specs.Ending.{settled, told, ended, endOrders, ordersOf, pictureOf}
 use Rattle.rules.specs.Run.{Outcome, refused, taken, concluded, left, written, lent, numberOf}
 use Rattle.registry.specs.declared.image.RegistryImage.{RegistryImage}
 use Rattle.registry.specs.declared.record.Recorded.{Recorded}
 use Rattle.registry.specs.View.{viewOf}
-use Rattle.registry.specs.Outcome.{handed, expected, Does, ended, endOrders, Ends}
+use Rattle.registry.specs.Outcome.{handed, expected, Does, Ends}
 use Rattle.wire_orders.proofs.Writing.{orders-length, wrote-orders}
 
 -- the same outcome by another name
@@ -33,11 +33,6 @@ pub refuses : {came : RegistryImage} {o : Outcome} {r : Recorded} (b : List ℕ)
 unfolding handed expected left lent numberOf written
 refuses b n e f = along e (record { outcome = (λ i. record { picture = viewOf (f .2 i); number = f .0 i; length = f .1 i; buffer = b }); kept = λ m h. f .2 })
 
--- the orders of a taken event: those in front of the ending, and the ending's own
-pub orders-of : (p : Picture) (c : Change) → ordersOf p c ≡ (c .first ++ told p (c .picture) ++ c .set) ++ endOrders (c .picture)
-unfolding ordersOf endOrders
-orders-of p c = append-assoc (c .first ++ told p (c .picture) ++ c .set) (okOrder (c .picture)) (waitOrder (settled (c .picture)))
-
 -- what is handed back with a taken event
 pub takes : {came : RegistryImage} {r : Recorded} {b d : List ℕ} (p : Picture) (c : Change) → viewOf (r .picture) ≡ ended (c .picture)
     → r .number ≡ 0 → r .length ≡ length (encodeAll (c .picture .pass) (ordersOf p c)) → d ≡ sets b 0 (encodeAll (c .picture .pass) (ordersOf p c))
@@ -46,26 +41,24 @@ unfolding handed expected left lent numberOf written concluded pictureOf ended w
 takes p c e n f g = record { outcome = (λ i. record { picture = e i; number = n i; length = f i; buffer = g i }); kept = λ n h. clash refl (ap isTaken h) }
 
 pub written-taken : (p : Picture) (c : Change) → written (concluded p (change c)) ≡ encodeAll (c .picture .pass) (ordersOf p c)
-unfolding written concluded pictureOf withDelay settled withState
+unfolding written concluded pictureOf ended withDelay settled withState
 written-taken p c = refl
 
 module _ {came : RegistryImage} {r : Recorded} {b m d : List ℕ} {at : ℕ} (p : Picture) (c : Change) where
   pub does : Wrote b 0 (encodeAll (c .picture .pass) (c .first ++ told p (c .picture) ++ c .set)) at m → Ends (c .picture) m at r d
       → Does came (concluded p (change c)) b r d
+  unfolding ordersOf
   does w e =
-      let n = c .picture .pass in
-      let x = wrote-orders n (c .first ++ told p (c .picture) ++ c .set) (endOrders (c .picture)) w (record { buffer = e .buffer; place = refl }) in
-      let l = ap (encodeAll n) (sym (orders-of p c)) in
-      takes p c (e .picture) (e .number)
-      (e .length ∙ x .place ∙ omega arith ∙ ap length l)
-      (x .buffer ∙ ap (sets b 0) l)
+      let x = wrote-orders (c .picture .pass) (c .first ++ told p (c .picture) ++ c .set) (endOrders (c .picture)) w (record { buffer = e .buffer; place = refl }) in
+      takes p c (e .picture) (e .number) (e .length ∙ x .place ∙ omega arith) (x .buffer)
 
 -- An event whose change is c: the orders in front of the ending are fs, and the picture that goes to the ending is q.
 module _ (p : Picture) (c : Change) {o : Outcome} (e : o ≡ concluded p (change c)) {fs : List Order} (f : c .first ++ told p (c .picture) ++ c .set ≡ fs)
     {q : Picture} (g : q ≡ c .picture) (b : List ℕ) where
   whole : length (written o) ≡ length (encodeAll (q .pass) fs) + length (encodeAll (q .pass) (endOrders q))
+  unfolding ordersOf
   whole =
-      ap (λ (x : Outcome). length (written x)) e ∙ ap length (written-taken p c) ∙ ap (λ (l : List Order). length (encodeAll (c .picture .pass) l)) (orders-of p c)
+      ap (λ (x : Outcome). length (written x)) e ∙ ap length (written-taken p c)
       ∙ orders-length (c .picture .pass) (c .first ++ told p (c .picture) ++ c .set) (endOrders (c .picture))
       ∙ (λ i. length (encodeAll (sym g i .pass) (f i)) + length (encodeAll (sym g i .pass) (endOrders (sym g i))))
 

@@ -8,13 +8,13 @@ use lib.Seq.{sets}
 use Rattle.laws.specs.Lists.{any}
 use Rattle.rules.specs.Picture.{State, Picture, withState, withDelay, isOpen, isSilent}
 use Rattle.rules.specs.Order.{encodeAll}
-use Rattle.rules.specs.Ending.{becomesOk, settled, okOrder, waits, waitOrder}
+use Rattle.rules.specs.Ending.{becomesOk, settled, okOrder, waits, waitOrder, ended, endOrders}
 use Rattle.ring_entries.specs.Tests.{isShort}
 use Rattle.ring_ending.specs.declared.Closed.{Closed}
 use Rattle.ring_ending.specs.Closing.{isOver, stateAfter, startsDelay, closingOrders, Closes}
 use Rattle.registry.specs.declared.image.RegistryImage.{RegistryImage}
 use Rattle.registry.specs.View.{viewOf}
-use Rattle.registry.specs.Outcome.{ended, endOrders, Ends}
+use Rattle.registry.specs.Outcome.{Ends}
 
 module _ (q : Picture) {question silent short : Bool} (o : question ≡ any isOpen (q .rows)) (s : silent ≡ any isSilent (q .rows)) (h : short ≡ any isShort (q .rows)) where
   pub end-orders : endOrders q ≡ closingOrders (q .state) (q .delay) question silent short

@@ -8,6 +8,7 @@ use Rattle.rules.specs.Picture.{Picture, withRows, put, seatAt}
 use Rattle.rules.specs.Order.{Order, encodeAll}
 use Rattle.rules.specs.Renumber.{Renumbering}
 use Rattle.rules.specs.Step.{setOrder}
+use Rattle.rules.specs.Ending.{endOrders}
 use Rattle.rules.specs.Run.{written}
 use Rattle.row_entry.specs.declared.NodeEntry.{NodeEntry}
 use Rattle.row_entry.specs.View.{rowOf}
@@ -16,7 +17,7 @@ use Rattle.ring_tell.specs.Told.{rowTold}
 use Rattle.registry.specs.declared.image.RegistryImage.{RegistryImage}
 use Rattle.registry.specs.declared.record.Recorded.{Recorded}
 use Rattle.registry.specs.View.{viewOf}
-use Rattle.registry.specs.Outcome.{Does, Ends, Seat, endOrders, replyOutcome}
+use Rattle.registry.specs.Outcome.{Does, Ends, Seat, replyOutcome}
 use Rattle.ring_answer.specs.Hearing.{replyChange}
 use Rattle.registry.proofs.Doing.{done, end-room, front-room}
 use Rattle.registry.proofs.Places.{front-reply}

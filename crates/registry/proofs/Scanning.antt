@@ -1,7 +1,7 @@
 -- Scans: a list of ASKs and the ending, behind the orders that stand first.
 use Prim.Native.Nat.{ℕ, suc, _+_, _-_, _<_, _≤_}
 use mathlib.Core.Path.{_≡_, refl, sym, _∙_, ap, subst}
-use mathlib.Core.Bool.{Bool, true, false, cond, not, _&&_}
+use mathlib.Core.Bool.{Bool, true, false, not}
 use mathlib.Core.List.{List, [], _∷_, _++_, append-assoc, append-nil}
 use native.Mathlib.Omega.{arith}
 use borrow.Author.Tests.{lt-leb, le-leb, eq-eqb, ne-eqb}
@@ -14,14 +14,15 @@ use Rattle.rules.specs.House.{maxPass}
 use Rattle.rules.specs.Event.{START, NCE, SHUTDOWN, DELAY}
 use Rattle.rules.specs.Order.{Order, NOTOK, encode, encodeAll}
 use Rattle.rules.specs.Step.{change, refuseIf, asks, scanned, scan, begin, shutDown, delayEnds, respond}
-use Rattle.rules.specs.Ending.{becomesOk, settled, okOrder, told, waits, waitOrder, ordersOf}
+use Rattle.rules.specs.Ending.{becomesOk, settled, okOrder, told, waits, waitOrder, ended, endOrders, ordersOf}
 use Rattle.rules.specs.Run.{Outcome, refused, concluded, written}
+use Rattle.rules.proofs.Sizes.{told-none}
 use Rattle.registry.specs.declared.image.RegistryImage.{RegistryImage}
 use Rattle.registry.specs.declared.record.Recorded.{Recorded}
 use Rattle.registry.specs.View.{viewOf}
-use Rattle.registry.specs.Outcome.{Does, ended, endOrders, Ends, scanOrders, Scans}
+use Rattle.registry.specs.Outcome.{Does, Ends, scanOrders, Scans}
 use Rattle.wire_orders.proofs.Writing.{orders-one, orders-length, wrote-orders}
-use Rattle.registry.proofs.Doing.{takes, orders-of, written-taken}
+use Rattle.registry.proofs.Doing.{takes, written-taken}
 use Rattle.registry.proofs.Telling.{told-asked}
 
 -- a scan of the rows of p, from what is written for it
@@ -50,21 +51,11 @@ module _ (p q : Picture) {n : ℕ} (e : n ≡ suc (p .pass)) (f : q ≡ scanned 
           length = h .length ∙ ap (λ (k : ℕ). i + length (encodeAll k (endOrders q))) g ∙ x .place ∙ ap (λ (y : List ℕ). at + length y) l;
         }
 
--- what is told where OK is left: nothing
-none-told : (b : Bool) (os : List Order) → cond (b && false) os [] ≡ []
-none-told true os = refl
-none-told false os = refl
-
 module _ (p : Picture) (first : List Order) (rs : List Row) where
-  scan-told : told p (scanned rs p) ≡ []
-  unfolding told scanned isOk
-  scan-told = none-told (isOk (p .state)) _
-
   scan-orders : ordersOf p (scan first rs p) ≡ first ++ scanOrders (withRows rs p)
-  unfolding scan scanned withRows
+  unfolding scan scanned withRows isOk ordersOf
   scan-orders =
-      orders-of p (scan first rs p)
-      ∙ ap (λ (l : List Order). l ++ endOrders (scanned rs p)) (append-nil (first ++ asks isOpen 1 rs ++ told p (scanned rs p)) ∙ ap (λ (l : List Order). first ++ asks isOpen 1 rs ++ l) scan-told ∙ append-nil (first ++ asks isOpen 1 rs))
+      ap (λ (l : List Order). l ++ endOrders (scanned rs p)) (append-nil (first ++ asks isOpen 1 rs ++ told p (scanned rs p)) ∙ ap (λ (l : List Order). first ++ asks isOpen 1 rs ++ l) (told-none p (scanned rs p) refl) ∙ append-nil (first ++ asks isOpen 1 rs))
       ∙ append-assoc first (asks isOpen 1 rs) (endOrders (scanned rs p))
 
   scan-parts : length (encodeAll (suc (p .pass)) (ordersOf p (scan first rs p)))
@@ -120,12 +111,12 @@ module _ (p : Picture) (n : ℕ) where
 -- SHUTDOWN writes nothing
 pub shuts : {came : RegistryImage} {r : Recorded} (p : Picture) (b : List ℕ) → _≡_ {A = Picture} (viewOf (r .picture)) (record { state = Off; pass = p .pass; size = p .size; delay = false; rows = [] })
     → r .number ≡ 0 → r .length ≡ 0 → Does came (concluded p (respond p SHUTDOWN)) b r b
-unfolding respond shutDown ended withDelay settled withState becomesOk waits isNotOk isOk ordersOf told okOrder waitOrder encodeAll collect
+unfolding respond shutDown ended withDelay settled withState becomesOk waits isNotOk isOk ordersOf endOrders okOrder waitOrder encodeAll collect
 shuts p b e n f =
     takes p (shutDown p) e n (f ∙ ap (λ (os : List Order). length (encodeAll (p .pass) os)) (sym none)) (ap (λ (os : List Order). sets b 0 (encodeAll (p .pass) os)) (sym none))
   where
     none : ordersOf p (shutDown p) ≡ []
-    none = ap (λ (os : List Order). [] ++ os ++ [] ++ [] ++ []) (none-told (isOk (p .state)) _)
+    none = ap (λ (os : List Order). [] ++ os ++ [] ++ []) (told-none p (shutDown p .picture) refl)
 
 -- DELAY: 5, 8, or the SILENT rows are asked
 module _ (p : Picture) (n : ℕ) where

@@ -6,22 +6,18 @@ use mathlib.Core.List.{List, [], _∷_, _++_}
 use mathlib.Core.Option.{Option, none, some}
 use native.Mathlib.Omega.{arith}
 use native.Mathlib.Nat.{suc-ne-zero}
-use borrow.Author.Tests.{lt-ltb, le-ltb, leb-true}
-use lib.Dec.{leb}
-use lib.ListN.{length, take}
-use lib.Seq.{take-all}
-use Rattle.laws.specs.Bools.{and-left}
-use Rattle.rules.specs.House.{minRoom, minSize, maxSize}
-use Rattle.rules.specs.Picture.{Picture, State, Off, NotOk, Ok, Pair, legalSize, fresh, withRows, withState, withDelay}
+use borrow.Author.Tests.{lt-ltb, le-ltb}
+use lib.ListN.{length}
+use Rattle.rules.specs.House.{minRoom}
+use Rattle.rules.specs.Picture.{Picture, State, Off, NotOk, Ok, Pair, fresh}
 use Rattle.rules.specs.Event.{Event, START, NCE, SHUTDOWN, ANSWER, NONE, DELAY, decode}
-use Rattle.rules.specs.Step.{Change, refuseIf, scanned, scan, begin, shutDown, changeRows, delayEnds, keepAnswer, takes, notTaken, respond}
-use Rattle.rules.specs.Ending.{settled, pictureOf}
-use Rattle.rules.specs.Run.{Outcome, refused, onEvent, onDecoded, concluded, step, Record, Sent, left, written, next, after}
-use Rattle.rules.specs.Claims.{pictureAt}
+use Rattle.rules.specs.Step.{refuseIf, takes, notTaken, respond}
+use Rattle.rules.specs.Run.{Outcome, refused, onEvent, onDecoded, concluded, step, Record, left, written, next, after}
 use Rattle.rules.proofs.Decode.{formed}
-use Rattle.rules.proofs.Along.{Keeps, along}
-use Rattle.rules.proofs.Ways.{Ways, Always, in-every-way}
-use Rattle.rules.proofs.Demand3.{running-at}
+use Rattle.rules.proofs.Along.{along}
+use Rattle.rules.proofs.Sound.{Sound}
+use Rattle.rules.proofs.Runs.{Running, running-fresh, running-taken}
+use Rattle.rules.proofs.Sizes.{largest}
 use Rattle.rules.proofs.Records.{record-fits}
 use Rattle.wire_events.specs.declared.Event as declared
 use Rattle.wire_events.specs.declared.Event.the-variants as events
@@ -87,51 +83,16 @@ module _ (p : Picture) (b : List ℕ) (room : ℕ) where
         go (some (NONE c x)) h = tt
         go (some (DELAY c)) h = tt
 
--- L stays what it is
-size-ways : (p : Picture) → Ways p (λ (e : Event) (c : Change). c .picture .size ≡ p .size)
-unfolding begin scan scanned shutDown changeRows withRows delayEnds keepAnswer
-size-ways p =
-    record {
-      starts = λ n l. refl;
-      rescans = λ n l. refl;
-      shuts = refl;
-      silences = λ c x s o. refl;
-      delays = λ c d. refl;
-      bars = λ c x a ps s o z. refl;
-      ignores = λ c x a ps s o counts k z. refl;
-      restarts = λ c x a ps s o counts b l. refl;
-      keeps = λ c x a ps s o k. refl;
-    }
-
-size-taken : (l : ℕ) → Keeps (λ (p : Picture) (sent : List Sent). p .size ≡ l)
-unfolding pictureOf withDelay settled withState
-size-taken l p sent e c h t q f = subst (Always (λ (b : Change). b .picture .size ≡ p .size)) q (in-every-way p _ (size-ways p) e) ∙ h
-
-fresh-size : (l : ℕ) → minSize ≤ fresh l .size
-unfolding fresh legalSize
-fresh-size l = go (legalSize l) refl
-  where
-    go : (t : Bool) → legalSize l ≡ t → minSize ≤ cond t l minSize
-    go true h = leb-true minSize l (and-left (leb minSize l) (leb l maxSize) h)
-    go false h = omega arith
-
 module _ (p : Picture) (h : Reached p) where
-  all-taken : pictureAt (h .size) (h .records) (length (h .records)) ≡ p
-  unfolding pictureAt
-  all-taken = ap (after (fresh (h .size))) (take-all (length (h .records)) (h .records) (omega arith)) ∙ sym (h .made)
+  sound : Sound p
+  sound = subst Sound (sym (h .made)) (along Running running-taken (fresh (h .size)) [] (h .records) (running-fresh (h .size)) .sound)
 
   pub reached-size : 3 ≤ p .size
-  unfolding pictureAt
-  reached-size =
-      let e = along (λ (q : Picture) (sent : List Sent). q .size ≡ fresh (h .size) .size) (size-taken (fresh (h .size) .size)) (fresh (h .size)) [] (take (length (h .records)) (h .records)) refl in
-      let f = ap (λ (q : Picture). q .size) all-taken in
-      omega (arith, e, f, fresh-size (h .size))
+  reached-size = omega (arith, sound .size)
 
   -- the orders of any record fit into the least room
-  pub reached-room : (b : List ℕ) (room : ℕ) → length (written (step p b room)) ≤ 511
-  reached-room b room =
-      subst (λ (q : Picture). length (written (step q b room)) ≤ 511) all-taken
-      (record-fits (pictureAt (h .size) (h .records) (length (h .records))) (record { bytes = b; room = room }) (running-at (h .size) (h .records) (length (h .records)) .sound))
+  pub reached-room : (b : List ℕ) (room : ℕ) → length (written (step p b room)) ≤ largest
+  reached-room b room = record-fits p (record { bytes = b; room = room }) sound
 
   -- and so does the picture that it leaves
   after-one : (q : Picture) (rs : List Record) (r : Record) → after q (rs ++ r ∷ []) ≡ next (after q rs) r

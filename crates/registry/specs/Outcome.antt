@@ -1,18 +1,18 @@
 -- What a record does: the next picture, the answer and the lent buffer, in one equation with the rules' outcome.
 use Prim.Native.Nat.{ℕ, suc, _+_, _≤_, min}
 use mathlib.Core.Path.{_≡_}
-use mathlib.Core.Bool.{true, false, _||_}
+use mathlib.Core.Bool.{true, false}
 use mathlib.Core.List.{List, [], _∷_, _++_, map}
 use mathlib.Core.Option.{Option, none, some}
 use lib.ListN.{length}
 use lib.Seq.{sets}
-use Rattle.rules.specs.Picture.{Picture, Row, fresh, withDelay, isOpen, seatAt}
+use Rattle.rules.specs.Picture.{Picture, Row, fresh, isOpen, seatAt}
 use Rattle.rules.specs.House.{maxNodes, maxUnits}
 use Rattle.rules.specs.Event.{Event, START, NCE, SHUTDOWN, ANSWER, NONE, DELAY}
 use Rattle.rules.specs.Order.{Order, NOTOK, encodeAll}
 use Rattle.rules.specs.Renumber.{Renumbering}
 use Rattle.rules.specs.Step.{Verdict, Response, refuse, change, respond, asks, scanned, scan, changeRows, emptied, onCounted, conflict}
-use Rattle.rules.specs.Ending.{settled, okOrder, waits, waitOrder}
+use Rattle.rules.specs.Ending.{ended, endOrders}
 use Rattle.rules.specs.Run.{Outcome, refused, concluded, left, lent, numberOf, written, Record, after}
 use Rattle.ring_entries.specs.Verdicts.{countsFor, struck}
 use Rattle.ring_answer.specs.Hearing.{replyChange}
@@ -51,12 +51,6 @@ pub record HandedOut (i : RegistryImage) : Type 0 where
   pub reached : Reached (viewOf i)
 
 -- the ending of an event whose steps left picture q
-unfoldable pub ended : Picture → Picture
-ended q = withDelay (settled q .delay || waits (settled q)) (settled q)
-
-unfoldable pub endOrders : Picture → List Order
-endOrders q = okOrder q ++ waitOrder (settled q)
-
 pub record Ends (q : Picture) (before : List ℕ) (at : ℕ) (r : Recorded) (after : List ℕ) : Type 0 where
   pub picture : viewOf (r .picture) ≡ ended q
   pub number : r .number ≡ 0

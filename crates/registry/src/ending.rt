@@ -2,8 +2,9 @@
 ghost use Prim.Native.Nat.{_+_, _≤_};
 ghost use lib.ListN.{length};
 ghost use Rattle.rules.specs.Order.{encodeAll};
+ghost use Rattle.rules.specs.Ending.{endOrders};
 ghost use Rattle.registry.specs.View.{viewOf};
-ghost use Rattle.registry.specs.Outcome.{endOrders, Ends};
+ghost use Rattle.registry.specs.Outcome.{Ends};
 use super::image::RegistryImage;
 use super::record::Recorded;
 use numbers::DONE;

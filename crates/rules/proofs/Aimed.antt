@@ -17,10 +17,10 @@ use Rattle.rules.specs.Event.{Event, START, NCE, SHUTDOWN, ANSWER, NONE,
 use Rattle.rules.specs.Order.{Order, ASK, OK, NOTOK, NEW, INVALID, WAIT-SHORT, WAIT-LONG}
 use Rattle.rules.specs.Renumber.{Judged, isGood, judge, goods, numbersOf, isIn, leastFrom, leastFree, freeNumber, Renumbering, finished, renumbers, offer, renumberFrom, renumber, placeOf, triesOf}
 use Rattle.rules.specs.Step.{Change, asks, scan, begin, shutDown, changeRows, delayEnds, setOrder, judgedFor, renumberingFor, listedRow, keepAnswer}
-use Rattle.rules.specs.Ending.{becomesOk, waits, okOrder, tell, packed, lost, gained, tellRows, told, waitOrder, settled, ordersOf, pictureOf}
+use Rattle.rules.specs.Ending.{becomesOk, waits, okOrder, tell, packed, lost, gained, tellRows, told, waitOrder, settled, ended, endOrders, ordersOf, pictureOf}
 use Rattle.rules.specs.Run.{Outcome, Record, left, Sent, sentWith, sentBy}
 use Rattle.rules.specs.Claims.{ifTaken, accepted, SetAimed, Aimed, SetsAimed}
-use Rattle.rules.proofs.Ways.{Ways, Seated, Always, in-every-way, Offered, was-refused, was-taken, offered-cases}
+use Rattle.rules.proofs.Ways.{Ways, Seated, every-taken, Offered, was-refused, was-taken, offered-cases}
 use Rattle.rules.proofs.Sound.{kept-after}
 use Rattle.rules.proofs.Questions.{row-in}
 use Rattle.rules.proofs.Pairs.{same-self}
@@ -163,9 +163,13 @@ module _ (P : Order → Type 0) (h : Plain P) where
       go true false = all-cons (h .long) all-nil
       go false c = all-nil
 
+  all-ending : (p : Picture) → All P (endOrders p)
+  unfolding endOrders
+  all-ending p = all-append (all-ok p) (all-waits (settled p))
+
   all-orders : (p : Picture) (c : Change) → All P (c .first) → All P (c .set) → All P (ordersOf p c)
   unfolding ordersOf
-  all-orders p c f s = all-append (all-append (all-append (all-append f (all-told p (c .picture))) s) (all-ok (c .picture))) (all-waits (settled (c .picture)))
+  all-orders p c f s = all-append (all-append (all-append f (all-told p (c .picture))) s) (all-ending (c .picture))
 
 plain-aimed : (e : Option Event) (q : Picture) → Plain (Aimed e q)
 plain-aimed e q = record { ask = λ x. tt; ok = tt; notok = tt; new = λ ps. tt; invalid = λ ps. tt; short = tt; long = tt }
@@ -191,7 +195,7 @@ free-everywhere t a ps g there here (suc i) =
 -- the SET of an answer that is kept
 set-aimed : (p : Picture) (c x a : ℕ) (ps : List Pair) → Seated p c x
     → All (Aimed (some (ANSWER c x a ps)) (pictureOf (keepAnswer x a ps (seatAt (p .rows) x) p))) (setOrder x a (renumberingFor (seatAt (p .rows) x) ps))
-unfolding setOrder renumberingFor renumber judgedFor pictureOf settled withState withDelay keepAnswer withRows
+unfolding setOrder renumberingFor renumber judgedFor pictureOf ended settled withState withDelay keepAnswer withRows
 set-aimed p c x a ps s = go (renumberingFor t ps) (drop-offers (renumberingFor t ps) (offers (freeNumber elsewhere ps) (placeOf (t .row .status)) (triesOf (t .row .status)) (drop (placeOf (t .row .status)) (judge elsewhere [] ps))))
   where
     t : Seat
@@ -260,4 +264,4 @@ setsAimed p r = record { aimed = go (offered-cases p r) }
     go was-refused = all-nil
     go (was-taken {c} e d m t q) =
         subst (λ (z : Option Event). All (λ (s : Sent). Aimed z (pictureOf c) (s .order)) (map (sentWith (pictureOf c .pass)) (ordersOf p c))) (sym d)
-        (sent (some e) (pictureOf c) (pictureOf c .pass) (ordersOf p c) (subst (Always (λ (b : Change). All (Aimed (some e) (pictureOf b)) (ordersOf p b))) q (in-every-way p _ (aimed-ways p) e)))
+        (sent (some e) (pictureOf c) (pictureOf c .pass) (ordersOf p c) (every-taken p _ (aimed-ways p) e c q))

@@ -8,16 +8,16 @@ use borrow.Author.Tests.{eqb-true}
 use lib.Dec.{eqb}
 use lib.ListN.{getD, take}
 use Rattle.laws.specs.Lists.{any}
-use Rattle.laws.specs.Bools.{clash, decide, on-cond, and-left, and-right, or-cases}
+use Rattle.laws.specs.Bools.{clash, on-cond, and-left, and-right, or-cases, refute}
 use Rattle.laws.specs.Alls.{All, all-nil, all-cons, all-head, all-tail, all-left, all-right, all-append, all-map, all-mapped, all-of, all-everywhere, any-none, Pairwise, pairwise-nil, pairwise-head, pairwise-tail, pairwise-in, pairwise-out, pairwise-each, pairwise-always, pairwise-replicate, each-map, each-both}
 use Rattle.rules.specs.Picture.{Pair, Status, WAITING, SETTING, LISTED, SILENT, IGNORED, Row, Picture, withStatus, withRows, withState, withDelay, Kept, keptBy, hasAddress, keeps, inRange, barsStatus, bars, isSilent, isIgnored, isIgnoredStatus, newRow, noRow, rowAt, Seat, seatAt, others, put, fresh}
 use Rattle.rules.specs.Event.{Event}
 use Rattle.rules.specs.Renumber.{Renumbering, finished, renumbers, goods}
 use Rattle.rules.specs.Step.{Change, scanned, scan, begin, shutDown, changeRows, silenced, asked, delayEnds, ignored, counted, onCounted, emptied, statusAfter, judgedFor, renumberingFor, listedRow, keepAnswer}
-use Rattle.rules.specs.Ending.{pictureOf, settled}
+use Rattle.rules.specs.Ending.{settled, ended, pictureOf}
 use Rattle.rules.specs.Run.{Record, Sent}
 use Rattle.rules.specs.Claims.{pictureAt, Unbarred}
-use Rattle.rules.proofs.Ways.{Ways, Seated, Cleared, Always, in-every-way}
+use Rattle.rules.proofs.Ways.{Ways, Seated, Cleared, every-taken}
 use Rattle.rules.proofs.Along.{Keeps, along}
 use Rattle.rules.proofs.Sound.{kept-after, each-counted}
 
@@ -64,11 +64,8 @@ idle-silenced r a = (refl, refl)
 
 idle-none : Idle noRow
 unfolding noRow bars keeps barsStatus keptBy hasAddress inRange
-idle-none a = (go (decide (eqb a 0 && inRange a)), refl)
-  where
-    go : (eqb a 0 && inRange a ≡ true) ⊎ (eqb a 0 && inRange a ≡ false) → eqb a 0 && inRange a ≡ false
-    go (inl e) = clash (subst (λ (b : ℕ). inRange b ≡ true) (eqb-true a 0 (and-left (eqb a 0) (inRange a) e)) (and-right (eqb a 0) (inRange a) e)) refl
-    go (inr e) = e
+idle-none a =
+    (refute (eqb a 0 && inRange a) (λ e. clash (subst (λ (b : ℕ). inRange b ≡ true) (eqb-true a 0 (and-left (eqb a 0) (inRange a) e)) (and-right (eqb a 0) (inRange a) e)) refl), refl)
 
 -- a row that stays, or becomes idle
 abbrev Rests : Row → Row → Type 0
@@ -142,13 +139,9 @@ covered counts a rest (inr h) = all-map (λ (r : Row) (k : keeps a r ≡ true �
 covered-unkept : (counts : Row → Bool) (a : ℕ) (r : Row) → Covered counts a r → Unkept a (cond (counts r) (ignored a (counted r)) r)
 covered-unkept counts a r c = go (counts r) refl
   where
-    kept-not : counts r ≡ false → inRange a ≡ true → (keeps a r ≡ true) ⊎ (keeps a r ≡ false) → keeps a r ≡ false
-    kept-not e i (inl f) = clash (c i f) e
-    kept-not e i (inr f) = f
-
     go : (b : Bool) → counts r ≡ b → Unkept a (cond b (ignored a (counted r)) r)
     go true e i = ignored-keeps a a (counted r)
-    go false e i = kept-not e i (decide (keeps a r))
+    go false e i = refute (keeps a r) (λ f. clash (c i f) e)
 
 counted-unkept : (a : ℕ) (counts : Row → Bool) (s : Seat) → Cleared counts a (others s)
     → All (Unkept a) (onCounted counts (λ (r : Row). ignored a (counted r)) s)
@@ -171,12 +164,11 @@ listed-clear s a ps t h = (λ b e. clash e (never b (renumberingFor s ps)), othe
     never b finished = refl
     never b (renumbers i u c n) = refl
 
-    differs : (b : ℕ) → bars b t ≡ true → (eqb b a ≡ true) ⊎ (eqb b a ≡ false) → eqb b a ≡ false
-    differs b e (inl f) = clash (subst (λ (c : ℕ). bars c t ≡ true) (eqb-true b a f) e) h
-    differs b e (inr f) = f
+    differs : (b : ℕ) → bars b t ≡ true → eqb b a ≡ false
+    differs b e = refute (eqb b a) (λ f. clash (subst (λ (c : ℕ). bars c t ≡ true) (eqb-true b a f) e) h)
 
     other : (b : ℕ) → bars b t ≡ true → keeps b (listedRow s a ps) ≡ false
-    other b e = subst (λ (k : Kept). hasAddress b k ≡ false) (sym (kept-after a (goods (judgedFor s ps)) (renumberingFor s ps))) (differs b e (decide (eqb b a)))
+    other b e = subst (λ (k : Kept). hasAddress b k ≡ false) (sym (kept-after a (goods (judgedFor s ps)) (renumberingFor s ps))) (differs b e)
 
 -- a row that is emptied keeps nothing
 emptied-keeps : (a : ℕ) (r : Row) → keeps a (emptied r) ≡ false
@@ -220,8 +212,8 @@ module _ (p : Picture) (h : Pairwise BothClear (p .rows)) where
 
 -- every taken event
 clear-taken : Keeps (λ (p : Picture) (sent : List Sent). Pairwise BothClear (p .rows))
-unfolding pictureOf settled withState withDelay
-clear-taken p sent e c h t q f = subst (Always (λ (b : Change). Pairwise BothClear (b .picture .rows))) q (in-every-way p _ (clear-ways p h) e)
+unfolding pictureOf ended settled withState withDelay
+clear-taken p sent e c h t q f = every-taken p _ (clear-ways p h) e c q
 
 -- at every two positions
 clear-at : (rows : List Row) (i j : ℕ) → Pairwise BothClear rows → Clear (getD rows i noRow) (getD rows j noRow)

@@ -12,17 +12,17 @@ use lib.Dec.{eqb, ltb, eqb·suc-zero}
 use lib.ListN.{length, getD, take, drop, replicate, length-take, length-drop, List·getD-eq-default}
 use lib.Seq.{take-add, take-suc, take-take, getD-take, getD-drop}
 use Rattle.laws.specs.Lists.{any}
-use Rattle.laws.specs.Bools.{clash, decide, or-false, or-right}
+use Rattle.laws.specs.Bools.{clash, or-false, or-right, refute}
 use Rattle.laws.specs.Alls.{All, all-nil, all-cons, any-found}
 use Rattle.laws.specs.Sums.{total-at}
 use Rattle.rules.specs.House.{minRoom, maxNodes, maxPairs, maxTries}
 use Rattle.rules.specs.Picture.{State, NotOk, Ok, Status, WAITING, SETTING, LISTED, SILENT, IGNORED, Row, Picture, withState, withDelay, withRows, isOpen, isOpenStatus, isIgnored, isIgnoredStatus, newRow, noRow, rowAt, openAt, fresh, seatAt, put}
 use Rattle.rules.specs.Event.{Event, START, NCE, SHUTDOWN, ANSWER, NONE, DELAY, decode, encodeEvent, header, four, two}
 use Rattle.rules.specs.Step.{Change, Response, change, refuseIf, scanned, scan, begin, shutDown, changeRows, silenced, delayEnds, keepAnswer, takes, noPosition, respond}
-use Rattle.rules.specs.Ending.{becomesOk, settled, pictureOf}
+use Rattle.rules.specs.Ending.{becomesOk, settled, ended, pictureOf}
 use Rattle.rules.specs.Run.{Outcome, onEvent, onDecoded, concluded, step, Record, offered, left, sentBy, Sent, next, after, history}
 use Rattle.rules.specs.Claims.{Exists8, ifTaken, accepted, isReply, countReply, repliesIn, pictureAt, sentAt, recordAt, repliesBetween, Awaits, Names, Allowed, bound, Reaches, arrives, holdsFewer, Demand3}
-use Rattle.rules.proofs.Ways.{Ways, Always, in-every-way, Offered, was-refused, was-taken, offered-cases}
+use Rattle.rules.proofs.Ways.{Ways, every-taken, Offered, was-refused, was-taken, offered-cases}
 use Rattle.rules.proofs.Sound.{Sound, Formed}
 use Rattle.rules.proofs.Decode.{formed, decode-encode}
 use Rattle.rules.proofs.Measure.{work, level, open-work, falls, level-begins}
@@ -34,11 +34,10 @@ use Rattle.rules.proofs.Distinct.{sound-distinct}
 open-seated : (p : Picture) (x : ℕ) → openAt p x ≡ true → (noPosition p x ≡ false) × (isOpen (seatAt (p .rows) x .row) ≡ true)
 unfolding openAt rowAt noPosition seatAt isOpen noRow isOpenStatus
 open-seated p zero h = clash h refl
-open-seated p (suc i) h = (or-false (eqb (suc i) 0) (ltb (length (p .rows)) (suc i)) (eqb·suc-zero i) (go (decide (ltb (length (p .rows)) (suc i)))), h)
+open-seated p (suc i) h = (or-false (eqb (suc i) 0) (ltb (length (p .rows)) (suc i)) (eqb·suc-zero i) (refute (ltb (length (p .rows)) (suc i)) beyond), h)
   where
-    go : (ltb (length (p .rows)) (suc i) ≡ true) ⊎ (ltb (length (p .rows)) (suc i) ≡ false) → ltb (length (p .rows)) (suc i) ≡ false
-    go (inl e) = clash h (ap isOpen (List·getD-eq-default (p .rows) noRow (le-of-suc-le-suc (ltb-true _ _ e))))
-    go (inr e) = e
+    beyond : ltb (length (p .rows)) (suc i) ≡ true → ltb (length (p .rows)) (suc i) ≡ false
+    beyond e = clash h (ap isOpen (List·getD-eq-default (p .rows) noRow (le-of-suc-le-suc (ltb-true _ _ e))))
 
 open-heard : (r : Row) → isOpen r ≡ true → isIgnored r ≡ false
 unfolding isOpen isIgnored isOpenStatus isIgnoredStatus
@@ -130,7 +129,7 @@ abbrev Going : Picture → Type 0
 Going p = (p .state ≡ NotOk) ⊎ (p .state ≡ Ok)
 
 settled-goes : (c : Change) → c .picture .state ≡ NotOk → Going (pictureOf c)
-unfolding pictureOf settled withState withDelay
+unfolding pictureOf ended settled withState withDelay
 settled-goes c h = go (becomesOk (c .picture))
   where
     go : (b : Bool) → (cond b Ok (c .picture .state) ≡ NotOk) ⊎ (cond b Ok (c .picture .state) ≡ Ok)
@@ -185,10 +184,10 @@ Moved p e q = (countReply e + level (q .rows) ≤ level (p .rows)) × Going q
 
 moved-reply : (p : Picture) (e : Event) (c : Change) → respond p e ≡ change c → Formed e → isReply e ≡ true → p .state ≡ NotOk
     → Moved p (some e) (pictureOf c)
-unfolding pictureOf settled withState withDelay countReply
+unfolding pictureOf ended settled withState withDelay countReply
 moved-reply p e c q f i s =
     let l : level (c .picture .rows) < level (p .rows) = falls p e c q i f s in
-    let g = subst (Always (λ (d : Change). isReply e ≡ true → p .state ≡ NotOk → d .picture .state ≡ NotOk)) q (in-every-way p _ (stays-ways p) e) i s in
+    let g = every-taken p _ (stays-ways p) e c q i s in
     (rw i (omega arith), settled-goes c g)
 
 moves : (p : Picture) (r : Record) → p .state ≡ NotOk → Allowed p (accepted p r) → Moved p (accepted p r) (next p r)
@@ -203,7 +202,7 @@ moves p r s = go (offered-cases p r)
 
 -- an accepted START or NCE naming N positions begins at the bound
 begun : (p : Picture) (r : Record) (n : ℕ) → Names (accepted p r) n → (1 ≤ n) × (n ≤ maxNodes) × (level (next p r .rows) ≤ bound n) × Going (next p r)
-unfolding accepted ifTaken left bound pictureOf settled withState withDelay
+unfolding accepted ifTaken left bound pictureOf ended settled withState withDelay
 begun p r n = go (offered-cases p r)
   where
     named : (e : Event) → Formed e → Names (some e) n → (1 ≤ n) × (n ≤ maxNodes)
@@ -218,7 +217,7 @@ begun p r n = go (offered-cases p r)
         → (1 ≤ n) × (n ≤ maxNodes) × (level (pictureOf c .rows) ≤ bound n) × Going (pictureOf c)
     start e c q f h =
         let k = named e f h in
-        let b = subst (Always (λ (d : Change). Names (some e) n → (d .picture .state ≡ NotOk) × (d .picture .rows ≡ replicate (n - 1) newRow))) q (in-every-way p _ (begins-ways p n) e) h in
+        let b = every-taken p _ (begins-ways p n) e c q h in
         let l : level (c .picture .rows) ≡ suc (maxPairs * maxTries) * (n - 1) * (2 * n - 1) = ap level (b .1) ∙ level-begins n (k .0) in
         (k .0, k .1, omega arith, settled-goes c (b .0))
 
@@ -347,7 +346,7 @@ demand3 l rs =
   where
     reaches : (i e n : ℕ) → i < e → e ≤ length rs → Names (accepted (pictureAt l rs i) (recordAt rs i)) n
         → ((j : ℕ) → i < j → j < e → Allowed (pictureAt l rs j) (accepted (pictureAt l rs j) (recordAt rs j)))
-        → (1 ≤ n) × (n ≤ 64) × Reaches l rs (suc i) e n
+        → (1 ≤ n) × (n ≤ maxNodes) × Reaches l rs (suc i) e n
     reaches i e n h g m a =
         let b = begun (pictureAt l rs i) (recordAt rs i) n m in
         let f = picture-next l rs i (omega arith) in

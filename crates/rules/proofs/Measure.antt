@@ -7,7 +7,7 @@ use mathlib.Core.Option.{Option, none, some}
 use native.Mathlib.Omega.{arith}
 use native.Mathlib.Nat.{mul-le-mul-left}
 use mathlib.Core.Logic.{_≢_}
-use Rattle.rules.proofs.Ways.{Ways, Seated, Below, Always, in-every-way}
+use Rattle.rules.proofs.Ways.{Ways, Seated, Below, every-taken}
 use Rattle.rules.proofs.Sound.{Formed, each-counted, length-put, length-counted}
 use borrow.Author.Tests.{ltb-true, eqb-false}
 use lib.Dec.{ltb}
@@ -266,9 +266,7 @@ module _ (p : Picture) where
   -- an answer or a silence that is taken in NOTOK lowers the level
   pub falls : (e : Event) (c : Change) → respond p e ≡ change c → isReply e ≡ true → Formed e → p .state ≡ NotOk
       → level (c .picture .rows) < level (p .rows)
-  falls e c h =
-      subst (Always (λ (d : Change). isReply e ≡ true → Formed e → p .state ≡ NotOk → level (d .picture .rows) < level (p .rows))) h
-      (in-every-way p _ falls-ways e)
+  falls = every-taken p _ falls-ways
 
 -- where a ring of N positions begins
 pub level-begins : (n : ℕ) → 1 ≤ n → level (replicate (n - 1) newRow) ≡ suc (maxPairs * maxTries) * (n - 1) * (2 * n - 1)

@@ -3,13 +3,12 @@ use Prim.Native.Nat.{ℕ, suc, _≤_}
 use mathlib.Core.Path.{_≡_, refl, sym, subst}
 use mathlib.Core.Bool.{Bool, true, false, cond, not, _&&_}
 use mathlib.Core.List.{List, [], _∷_}
-use mathlib.Core.Logic.{_⊎_, inl, inr}
 use native.Mathlib.Omega.{arith}
 use borrow.Author.Tests.{eqb-true, eqb-false, eq-eqb, ne-eqb}
 use lib.Dec.{eqb, leb}
 use lib.ListN.{length}
 use Rattle.laws.specs.Lists.{any}
-use Rattle.laws.specs.Bools.{clash, decide, and-left, and-right, and-true, not-true}
+use Rattle.laws.specs.Bools.{clash, and-left, and-right, and-true, not-true, refute}
 use Rattle.laws.specs.Alls.{All, all-nil, all-cons, all-head, all-tail, all-map, Pairwise, pairwise-nil, pairwise-cons, any-none}
 use Rattle.rules.specs.House.{minNumber, maxNumber}
 use Rattle.rules.specs.Picture.{Pair, samePair, holds}
@@ -33,11 +32,7 @@ unfolding samePair
 same-self a = and-true (eqb (a .block) (a .block)) (eqb (a .number) (a .number)) (eq-eqb (a .block) (a .block) refl) (eq-eqb (a .number) (a .number) refl)
 
 pub differ-turn : (a b : Pair) → Differ a b → Differ b a
-differ-turn a b h = go (decide (samePair b a))
-  where
-    go : (samePair b a ≡ true) ⊎ (samePair b a ≡ false) → samePair b a ≡ false
-    go (inl e) = clash (subst (λ (z : Pair). samePair a z ≡ true) (sym (same-eq b a e)) (same-self a)) h
-    go (inr e) = e
+differ-turn a b h = refute (samePair b a) (λ e. clash (subst (λ (z : Pair). samePair a z ≡ true) (sym (same-eq b a e)) (same-self a)) h)
 
 -- what a good pair avoids
 pub record New (elsewhere earlier : List Pair) (a : Pair) : Type 0 where

@@ -18,9 +18,9 @@ use Rattle.rules.proofs.Decode.{decodes}
 use Rattle.rules.proofs.Values.{values}
 use Rattle.rules.proofs.RoundTrip.{roundTrip, cuts, lengths}
 use Rattle.rules.proofs.Edges.{edgesHold, casesHold}
-use Rattle.rules.proofs.Tight.{longestWay, largestEvent}
+use Rattle.rules.proofs.Tight.{longestWay}
 
-legal : (size : ℕ) → 12 ≤ size → size ≤ 45 → legalSize size ≡ true
+legal : (size : ℕ) → minSize ≤ size → size ≤ maxSize → legalSize size ≡ true
 unfolding legalSize
 legal size l h = and-true (leb minSize size) (leb size maxSize) (le-leb minSize size l) (le-leb size maxSize h)
 
@@ -43,5 +43,4 @@ promises =
       edges = edgesHold;
       cases = casesHold;
       longestWay = longestWay;
-      largestEvent = largestEvent;
     }

@@ -16,15 +16,15 @@ use Rattle.rules.specs.Claims.{pictureAt, recordAt, Fits, Bounds, Refusa
 use Rattle.rules.proofs.Ways.{Offered, was-refused, was-taken, offered-cases}
 use Rattle.rules.proofs.Sound.{Sound, Proper, RowProper}
 use Rattle.rules.proofs.Decode.{formed}
-use Rattle.rules.proofs.Sizes.{encode-all-size, size-largest, row-few}
+use Rattle.rules.proofs.Sizes.{encode-all-size, largest, size-largest, row-few}
 use Rattle.rules.proofs.Demand3.{running-at}
 
--- a sound picture writes at most 511 bytes
-pub record-fits : (p : Picture) (r : Record) → Sound p → length (written (offered p r)) ≤ 511
+-- a sound picture writes no more than the largest event
+pub record-fits : (p : Picture) (r : Record) → Sound p → length (written (offered p r)) ≤ largest
 unfolding written
 record-fits p r h = go (offered-cases p r)
   where
-    go : {o : Outcome} → Offered p r o → length (written o) ≤ 511
+    go : {o : Outcome} → Offered p r o → length (written o) ≤ largest
     go was-refused = omega arith
     go (was-taken {c} e d m t q) = rw encode-all-size (size-largest p h e c q (formed (r .bytes) e d))
 
@@ -36,7 +36,7 @@ fits l rs =
       beyond = λ k h buffer room. sets-start buffer (written (offered (pictureAt l rs k) (recordAt rs k))) (omega (arith, at k));
     }
   where
-    at : (k : ℕ) → length (written (offered (pictureAt l rs k) (recordAt rs k))) ≤ 511
+    at : (k : ℕ) → length (written (offered (pictureAt l rs k) (recordAt rs k))) ≤ largest
     at k = record-fits (pictureAt l rs k) (recordAt rs k) (running-at l rs k .sound)
 
 pub refusal : (p : Picture) (r : Record) → Refusal p r

@@ -11,7 +11,7 @@ use lib.Dec.{eqb, leb, ltb, eqb·suc-zero}
 use lib.ListN.{length, take, drop, length-take, length-drop, replicate}
 use lib.Seq.{sets, length-sets, take-add, length-take-le, take-all}
 use Rattle.laws.specs.Lists.{upFrom}
-use Rattle.laws.specs.Bools.{decide, and-left, and-right, and-true, or-false, cond-true, cond-false}
+use Rattle.laws.specs.Bools.{decide, and-left, and-right, and-true, and-none, or-false, cond-true, cond-false}
 use Rattle.laws.specs.Buffers.{sets-append, sets-start}
 use Rattle.rules.specs.House.{minSize, maxSize, maxPayload, maxPass}
 use Rattle.rules.specs.Picture.{legalSize}
@@ -78,11 +78,7 @@ module _ (size : ℕ) (legal : legalSize size ≡ true) (msgId : ℕ) (writable 
   join-one : (s : Joining) (b payload : List ℕ) → maxPayload ≤ length b → length payload ≤ size
       → join size s b (telegram msgId 0 payload) ≡ record { answer = complete msgId (length payload); state = idle; buffer = sets b 0 payload }
   unfolding joinTo
-  join-one s b payload room fits = join-written s b 0 payload room fits (omega arith) (go (eqb (length payload) 0))
-    where
-      go : (t : Bool) → t && false && true ≡ false
-      go true = refl
-      go false = refl
+  join-one s b payload room fits = join-written s b 0 payload room fits (omega arith) (ap (λ (t : Bool). t && true) (and-none (eqb (length payload) 0)))
 
   -- the first of several
   join-first : (s : Joining) (b part : List ℕ) → maxPayload ≤ length b → suc (length part) ≤ size

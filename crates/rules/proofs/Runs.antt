@@ -1,23 +1,26 @@
 -- What holds after every record of every list: the picture is sound, NOTOK waits for a question, every open question is of the
 -- current pass.
-use Prim.Native.Nat.{ℕ}
-use mathlib.Core.Path.{_≡_, refl, sym, _∙_, ap, subst}
+use Prim.Native.Nat.{ℕ, _≤_}
+use mathlib.Core.Path.{_≡_, refl, sym, _∙_, ap}
 use mathlib.Core.Bool.{Bool, true, false, cond, not, _&&_, _||_}
 use mathlib.Core.List.{List, [], _∷_, _++_, map}
 use mathlib.Core.Option.{Option, none, some}
 use mathlib.Core.Logic.{_⊎_, inl, inr}
 use native.Mathlib.Omega.{arith}
+use borrow.Author.Tests.{leb-true}
+use lib.Dec.{leb}
 use Rattle.laws.specs.Lists.{any}
-use Rattle.laws.specs.Bools.{clash, or-cases}
+use Rattle.laws.specs.Bools.{clash, and-left, or-cases}
 use Rattle.laws.specs.Alls.{any-append, any-left, any-right}
-use Rattle.rules.specs.Picture.{State, Off, NotOk, Ok, isNotOk, Picture, withState, withDelay, isOpen, openAt, fresh}
+use Rattle.rules.specs.House.{minSize, maxSize}
+use Rattle.rules.specs.Picture.{State, Off, NotOk, Ok, isNotOk, Picture, withState, withDelay, isOpen, openAt, legalSize, fresh}
 use Rattle.rules.specs.Order.{Order}
 use Rattle.rules.specs.Step.{Change}
-use Rattle.rules.specs.Ending.{becomesOk, settled, okOrder, told, waitOrder, ordersOf, pictureOf}
+use Rattle.rules.specs.Ending.{becomesOk, settled, told, ended, endOrders, ordersOf, pictureOf}
 use Rattle.rules.specs.Run.{sentWith, Sent}
 use Rattle.rules.specs.Claims.{isFor, later, questionPass}
-use Rattle.rules.proofs.Ways.{Always, in-every-way}
-use Rattle.rules.proofs.Sound.{Sound, Formed, sound-ways, no-rows}
+use Rattle.rules.proofs.Ways.{every-taken}
+use Rattle.rules.proofs.Sound.{Sound, sound-ways, no-rows}
 use Rattle.rules.proofs.Along.{Keeps}
 use Rattle.rules.proofs.Questions.{asksFor, Asked, asked-ways, nothing-open}
 
@@ -60,13 +63,9 @@ orders-ask p c x h = go (or-cases (asksFor (c .first) x) (asksFor (c .set) x) (s
     t : List Order
     t = told p (c .picture)
 
-    o : List Order
-    o = okOrder (c .picture)
-
-    go : (asksFor (c .first) x ≡ true) ⊎ (asksFor (c .set) x ≡ true)
-        → asksFor (c .first ++ t ++ c .set ++ o ++ waitOrder (settled (c .picture))) x ≡ true
-    go (inl e) = any-left f _ (waitOrder (settled (c .picture))) (any-left f (c .first ++ t ++ c .set) o (any-left f (c .first ++ t) (c .set) (any-left f (c .first) t e)))
-    go (inr e) = any-left f _ (waitOrder (settled (c .picture))) (any-left f (c .first ++ t ++ c .set) o (any-right f (c .first ++ t) (c .set) e))
+    go : (asksFor (c .first) x ≡ true) ⊎ (asksFor (c .set) x ≡ true) → asksFor (ordersOf p c) x ≡ true
+    go (inl e) = any-left f (c .first ++ t ++ c .set) (endOrders (c .picture)) (any-left f (c .first ++ t) (c .set) (any-left f (c .first) t e))
+    go (inr e) = any-left f (c .first ++ t ++ c .set) (endOrders (c .picture)) (any-right f (c .first ++ t) (c .set) e)
 
 -- a picture of a run, with the orders given out so far
 pub record Running (p : Picture) (sent : List Sent) : Type 0 where
@@ -78,10 +77,19 @@ not-notok : {X : Type 0} (s : State) → isNotOk s ≡ false → s ≡ NotOk →
 unfolding isNotOk
 not-notok s h e = clash (ap isNotOk e) h
 
+-- a fresh picture has an L that is legal
+fresh-size : (l : ℕ) → minSize ≤ fresh l .size
+unfolding fresh legalSize
+fresh-size l = go (legalSize l) refl
+  where
+    go : (t : Bool) → legalSize l ≡ t → minSize ≤ cond t l minSize
+    go true h = leb-true minSize l (and-left (leb minSize l) (leb l maxSize) h)
+    go false h = omega arith
+
 pub running-fresh : (l : ℕ) → Running (fresh l) []
 unfolding fresh openAt isNotOk
 running-fresh l =
-    record { sound = record { rows = no-rows; pass = omega arith }; waits = λ h. not-notok Off refl h; current = λ x o. clash o (nothing-open x) }
+    record { sound = record { rows = no-rows; pass = omega arith; size = fresh-size l }; waits = λ h. not-notok Off refl h; current = λ x o. clash o (nothing-open x) }
 
 -- NOTOK after an event means that a question is open
 settled-waits : (p : Picture) → settled p .state ≡ NotOk → any isOpen (p .rows) ≡ true
@@ -96,15 +104,15 @@ settled-waits p h = go (p .state) (any isOpen (p .rows)) h
 
 -- every taken event
 pub running-taken : Keeps Running
-unfolding pictureOf settled withState withDelay openAt later
+unfolding pictureOf ended settled withState withDelay openAt later
 running-taken p sent e c r t h f =
-    record { sound = record { rows = sound .rows; pass = sound .pass }; waits = settled-waits (c .picture); current = current }
+    record { sound = record { rows = sound .rows; pass = sound .pass; size = sound .size }; waits = settled-waits (c .picture); current = current }
   where
     sound : Sound (c .picture)
-    sound = subst (Always (λ (d : Change). Formed e → Sound (d .picture))) h (in-every-way p _ (sound-ways p (r .sound)) e) f
+    sound = every-taken p _ (sound-ways p (r .sound)) e c h f
 
     asked : (x : ℕ) → openAt (c .picture) x ≡ true → Asked p c x
-    asked = subst (Always (λ (d : Change). (x : ℕ) → openAt (d .picture) x ≡ true → Asked p d x)) h (in-every-way p _ (asked-ways p) e)
+    asked = every-taken p _ (asked-ways p) e c h
 
     pass : ℕ
     pass = c .picture .pass

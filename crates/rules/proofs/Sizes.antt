@@ -9,20 +9,20 @@ use borrow.Author.Tests.{eqb-true}
 use lib.Dec.{ltb}
 use lib.ListN.{length, take, drop, length-append, length-take, length-drop, length-replicate, length-map}
 use Rattle.laws.specs.Lists.{any, select, collect}
-use Rattle.laws.specs.Bools.{clash, decide, or-cases, cond-true, cond-false, or-true-left, or-true-right}
+use Rattle.laws.specs.Bools.{clash, decide, and-none, or-cases, cond-true, cond-false, or-true-left, or-true-right}
 use Rattle.laws.specs.Alls.{All, all-nil, all-cons, all-head, all-tail, all-map, all-seat, all-out, Pairwise, pairwise-head, pairwise-tail, pairwise-out, any-none}
 use Rattle.laws.specs.Sums.{total, total-append}
-use Rattle.rules.specs.House.{maxNodes, maxPairs, maxSilences}
+use Rattle.rules.specs.House.{maxNodes, maxUnits, maxPairs, maxSilences}
 use Rattle.rules.specs.Picture.{isNotOk, isOk, Pair, samePair, holds, Status, WAITING, SETTING, LISTED, SILENT, IGNORED, Row, Picture, withStatus, withRows, withState}
 use Rattle.rules.specs.Picture.{Kept, nothing, kept, keptBy, keptIn, pairsOf, pairsIn, hasAddress, keeps, isOpen, isOpenStatus, isSilent, isSilentStatus, Seat, seatAt, others, put}
 use Rattle.rules.specs.Event.{Event, two, four}
 use Rattle.rules.specs.Order.{Order, ASK, SET, OK, NOTOK, NEW, INVALID, WAIT-SHORT, WAIT-LONG, kindOf, bodyOf, encode, encodeAll}
 use Rattle.rules.specs.Renumber.{judge, goods, Renumbering, finished, renumbers}
 use Rattle.rules.specs.Step.{Change, change, respond, asks, scanned, scan, begin, shutDown, changeRows, silenced, asked, delayEnds, ignored, counted, onCounted, setOrder, judgedFor, renumberingFor, listedRow, keepAnswer}
-use Rattle.rules.specs.Ending.{becomesOk, settled, okOrder, missing, packed, tell, lost, gained, tellRows, told, waits, waitOrder, ordersOf}
-use Rattle.rules.proofs.Ways.{Ways, Seated, Keepers, Always, in-every-way}
+use Rattle.rules.specs.Ending.{becomesOk, settled, okOrder, missing, packed, tell, lost, gained, tellRows, told, waits, waitOrder, endOrders, ordersOf}
+use Rattle.rules.proofs.Ways.{Ways, Seated, Keepers, every-taken}
 use Rattle.rules.proofs.Pairs.{same-self, goods-few}
-use Rattle.rules.proofs.Sound.{Apart, RowsApart, RowProper, Proper, SoundRows, Sound, Formed, kept-after, length-counted}
+use Rattle.rules.proofs.Sound.{Apart, RowsApart, RowProper, Proper, SoundRows, Sound, Formed, kept-after, length-counted, split-rows}
 use Rattle.rules.proofs.Decode.{pairs-length}
 
 -- how many bytes an order has
@@ -312,62 +312,57 @@ wait-size p = go (waits p) (any (λ (r : Row). isSilent r && ltb (r .silences) m
 
 open-no-ok : (p : Picture) → any isOpen (p .rows) ≡ true → okOrder p ≡ []
 unfolding okOrder becomesOk
-open-no-ok p h = cond-false (OK ∷ []) [] (ap (λ (b : Bool). isNotOk (p .state) && not b) h ∙ go (isNotOk (p .state)))
-  where
-    go : (b : Bool) → b && false ≡ false
-    go true = refl
-    go false = refl
+open-no-ok p h = cond-false (OK ∷ []) [] (ap (λ (b : Bool). isNotOk (p .state) && not b) h ∙ and-none (isNotOk (p .state)))
 
 open-no-wait : (p : Picture) → any isOpen (p .rows) ≡ true → waitOrder (settled p) ≡ []
 unfolding waitOrder waits settled withState
-open-no-wait p h = cond-false _ [] (ap (λ (b : Bool). isOk (settled p .state) && not b && any isSilent (p .rows) && not (p .delay)) h ∙ go (isOk (settled p .state)))
-  where
-    go : (b : Bool) → b && false && any isSilent (p .rows) && not (p .delay) ≡ false
-    go true = refl
-    go false = refl
+open-no-wait p h =
+    cond-false _ []
+    (ap (λ (b : Bool). isOk (settled p .state) && not b && any isSilent (p .rows) && not (p .delay)) h
+    ∙ ap (λ (b : Bool). b && any isSilent (p .rows) && not (p .delay)) (and-none (isOk (settled p .state))))
 
-ending-open : (p : Picture) → any isOpen (p .rows) ≡ true → total sizeOf (okOrder p) + total sizeOf (waitOrder (settled p)) ≡ 0
-unfolding total
+ending-open : (p : Picture) → any isOpen (p .rows) ≡ true → total sizeOf (endOrders p) ≡ 0
+unfolding endOrders total
 ending-open p h = rw (open-no-ok p h, open-no-wait p h)
 
-ending-size : (p : Picture) → total sizeOf (okOrder p) + total sizeOf (waitOrder (settled p)) ≤ 14
-ending-size p = let a = ok-size p in let b = wait-size (settled p) in omega arith
+ending-size : (p : Picture) → total sizeOf (endOrders p) ≤ 14
+unfolding endOrders
+ending-size p = let a = ok-size p in let b = wait-size (settled p) in rw total-append (omega arith)
 
 orders-size : (p : Picture) (c : Change) → total sizeOf (ordersOf p c)
-    ≡ total sizeOf (c .first) + total sizeOf (told p (c .picture)) + total sizeOf (c .set) + total sizeOf (okOrder (c .picture)) + total sizeOf (waitOrder (settled (c .picture)))
+    ≡ total sizeOf (c .first) + total sizeOf (told p (c .picture)) + total sizeOf (c .set) + total sizeOf (endOrders (c .picture))
 unfolding ordersOf
 orders-size p c = simp total-append
+
+-- ASKs and the ending: where a row is asked, a question is open and the ending writes nothing
+asks-end : (f : Row → Bool) (rows : List Row) (q : Picture) → suc (length rows) ≤ maxNodes → (any f rows ≡ true → any isOpen (q .rows) ≡ true)
+    → total sizeOf (asks f 1 rows) + total sizeOf (endOrders q) ≤ 8 * maxUnits
+unfolding total
+asks-end f rows q l h = go (decide (any f rows))
+  where
+    go : (any f rows ≡ true) ⊎ (any f rows ≡ false) → total sizeOf (asks f 1 rows) + total sizeOf (endOrders q) ≤ 8 * maxUnits
+    go (inl e) = omega (arith, asks-size f 1 rows, ending-open q (h e))
+    go (inr e) = omega (arith, ap (total sizeOf) (asks-none f 1 rows e), ending-size q)
 
 -- the largest event has 511 bytes
 abbrev pub largest : ℕ
 largest = 511
 
--- a new pass: NOTOK and an ASK for each row
-told-none : (p c : Picture) → isOk (c .state) ≡ false → told p c ≡ []
+-- where OK is left nothing is told
+pub told-none : (p c : Picture) → isOk (c .state) ≡ false → told p c ≡ []
 unfolding told
-told-none p c h = cond-false _ [] (ap (λ (b : Bool). isOk (p .state) && b) h ∙ go (isOk (p .state)))
-  where
-    go : (b : Bool) → b && false ≡ false
-    go true = refl
-    go false = refl
+told-none p c h = cond-false _ [] (ap (λ (b : Bool). isOk (p .state) && b) h ∙ and-none (isOk (p .state)))
 
+-- a new pass: NOTOK and an ASK for each row
 scan-size : (p : Picture) (first : List Order) (rows : List Row) → total sizeOf first ≤ 7 → suc (length rows) ≤ maxNodes
     → total sizeOf (ordersOf p (scan first rows p)) ≤ largest
 unfolding scan scanned isOk total
 scan-size p first rows h l =
-    let c = scan first rows p in
-    let o = orders-size p c in
+    let o = orders-size p (scan first rows p) in
     let t = ap (total sizeOf) (told-none p (scanned rows p) refl) in
     let a = total-append sizeOf first (asks isOpen 1 rows) in
-    go (decide (any isOpen rows)) o t a
-  where
-    go : (any isOpen rows ≡ true) ⊎ (any isOpen rows ≡ false)
-        → total sizeOf (ordersOf p (scan first rows p)) ≡ total sizeOf (first ++ asks isOpen 1 rows) + total sizeOf (told p (scanned rows p)) + total sizeOf [] + total sizeOf (okOrder (scanned rows p)) + total sizeOf (waitOrder (settled (scanned rows p)))
-        → total sizeOf (told p (scanned rows p)) ≡ total sizeOf []
-        → total sizeOf (first ++ asks isOpen 1 rows) ≡ total sizeOf first + total sizeOf (asks isOpen 1 rows)
-        → total sizeOf (ordersOf p (scan first rows p)) ≤ largest
-    go (inl e) o t a = let b = asks-size isOpen 1 rows in let z = ending-open (scanned rows p) e in omega arith
-    go (inr e) o t a = let b = ap (total sizeOf) (asks-none isOpen 1 rows e) in let z = ending-size (scanned rows p) in omega arith
+    let e = asks-end isOpen rows (scanned rows p) l (λ k. k) in
+    omega arith
 
 -- rows that change in place: what is told, a SET and the ending
 rows-size : (p : Picture) (c : Change) → c .first ≡ [] → total sizeOf (c .set) ≤ 13
@@ -428,23 +423,15 @@ asked-gains r = rw asked-pairs (omega (arith, gained-same r))
 
 delay-size : (p : Picture) → suc (length (p .rows)) ≤ maxNodes → total sizeOf (ordersOf p (delayEnds p)) ≤ largest
 unfolding delayEnds total
-delay-size p h = go (decide (any isSilent (p .rows)))
-  where
-    q : Picture
-    q = record { state = p .state; pass = p .pass; size = p .size; delay = false; rows = map asked (p .rows) }
-
-    size : total sizeOf (ordersOf p (delayEnds p)) ≤ total sizeOf (asks isSilent 1 (p .rows)) + (total sizeOf (okOrder q) + total sizeOf (waitOrder (settled q)))
-    size =
-        let o = orders-size p (delayEnds p) in
-        let t = told-size p q in
-        let l = changes-map lost (λ (r : Row). 0) asked asked-loses (p .rows) in
-        let g = changes-map gained (λ (r : Row). 0) asked asked-gains (p .rows) in
-        let z = total-zero (p .rows) in
-        omega arith
-
-    go : (any isSilent (p .rows) ≡ true) ⊎ (any isSilent (p .rows) ≡ false) → total sizeOf (ordersOf p (delayEnds p)) ≤ largest
-    go (inl e) = let b = asks-size isSilent 1 (p .rows) in let z = ending-open q (silent-opens (p .rows) e) in omega (arith, size)
-    go (inr e) = let b = ap (total sizeOf) (asks-none isSilent 1 (p .rows) e) in let z = ending-size q in omega (arith, size)
+delay-size p h =
+    let q = delayEnds p .picture in
+    let o = orders-size p (delayEnds p) in
+    let t = told-size p q in
+    let l = changes-map lost (λ (r : Row). 0) asked asked-loses (p .rows) in
+    let g = changes-map gained (λ (r : Row). 0) asked asked-gains (p .rows) in
+    let z = total-zero (p .rows) in
+    let e = asks-end isSilent (p .rows) q h (silent-opens (p .rows)) in
+    omega arith
 
 module _ (p : Picture) (h : Sound p) where
   onto : (c x : ℕ) → Seated p c x → (rows : List Row)
@@ -452,12 +439,9 @@ module _ (p : Picture) (h : Sound p) where
       → changes lost (p .rows) rows + changes gained (p .rows) rows ≤ 2 * maxPairs
   onto c x s rows k = subst (λ (l : List Row). changes lost l rows + changes gained l rows ≤ 2 * maxPairs) (sym (s .split)) k
 
-  seat-sound : (c x : ℕ) → Seated p c x → SoundRows (put (seatAt (p .rows) x) (seatAt (p .rows) x .row))
-  seat-sound c x s = subst SoundRows (s .split) (h .rows)
-
   seat-proper : (c x : ℕ) → Seated p c x → RowProper (seatAt (p .rows) x .row)
   unfolding put
-  seat-proper c x s = all-seat (seatAt (p .rows) x .front) (seatAt (p .rows) x .row) (seatAt (p .rows) x .back) (seat-sound c x s .proper)
+  seat-proper c x s = all-seat (seatAt (p .rows) x .front) (seatAt (p .rows) x .row) (seatAt (p .rows) x .back) (split-rows p h c x s .proper)
 
   size-ways : Ways p (λ (e : Event) (c : Change). Formed e → total sizeOf (ordersOf p c) ≤ largest)
   unfolding begin scan shutDown changeRows withRows keepAnswer total sizeOf
@@ -469,11 +453,11 @@ module _ (p : Picture) (h : Sound p) where
         silences = λ c x s o f. rows-size p _ refl (omega arith) (onto c x s _ (put-changes _ _ (seat-proper c x s) (omega (arith, ap length (silenced-pairs (seatAt (p .rows) x .row))))));
         delays = λ c d f. delay-size p (h .rows .few);
         bars = λ c x a ps s o z f. rows-size p _ refl (omega arith) (onto c x s _ (put-changes _ _ (seat-proper c x s) (omega (arith, ap length (ignored-pairs a (seatAt (p .rows) x .row))))));
-        ignores = λ c x a ps s o counts k z f. rows-size p _ refl (omega arith) (onto c x s _ (counted-changes a counts k _ (seat-sound c x s)));
-        restarts = λ c x a ps s o counts b l f. scan-size p (NOTOK ∷ []) _ (omega arith) (rw length-map (omega (arith, seat-sound c x s .few, length-counted counts counted (seatAt (p .rows) x))));
+        ignores = λ c x a ps s o counts k z f. rows-size p _ refl (omega arith) (onto c x s _ (counted-changes a counts k _ (split-rows p h c x s)));
+        restarts = λ c x a ps s o counts b l f. scan-size p (NOTOK ∷ []) _ (omega arith) (rw length-map (omega (arith, split-rows p h c x s .few, length-counted counts counted (seatAt (p .rows) x))));
         keeps = λ c x a ps s o k f. rows-size p _ refl (set-size x a _) (onto c x s _ (put-changes _ _ (seat-proper c x s) (omega (arith, f, listed-pairs (seatAt (p .rows) x) a ps))));
       }
 
 -- every taken event
 pub size-largest : (p : Picture) → Sound p → (e : Event) (c : Change) → respond p e ≡ change c → Formed e → total sizeOf (ordersOf p c) ≤ largest
-size-largest p h e c q = subst (Always (λ (d : Change). Formed e → total sizeOf (ordersOf p d) ≤ largest)) q (in-every-way p _ (size-ways p h) e)
+size-largest p h = every-taken p _ (size-ways p h)

@@ -1,4 +1,4 @@
--- Sound pictures: few rows, no shared address, no shared pair, at most 16 pairs a row. Every change of a sound picture is sound.
+-- Sound pictures: few rows, no shared address, no shared pair, no more pairs a row than an answer has. Every change of a sound picture is sound.
 use Prim.Native.Nat.{ℕ, suc, _-_, _≤_}
 use mathlib.Core.Path.{_≡_, refl, sym, subst}
 use mathlib.Core.Bool.{Bool, true, false, cond}
@@ -11,7 +11,7 @@ use Rattle.laws.specs.Lists.{any, collect}
 use Rattle.laws.specs.Bools.{on-cond}
 use Rattle.laws.specs.Alls.{All, all-nil, all-map, all-each, all-replicate, all-out, all-in, all-both, all-turn, all-collect, any-none}
 use Rattle.laws.specs.Alls.{Pairwise, pairwise-nil, pairwise-each, pairwise-replicate, pairwise-out, pairwise-in, Each, each-map, each-seat, each-same, each-length}
-use Rattle.rules.specs.House.{maxNodes, maxPairs, maxPass}
+use Rattle.rules.specs.House.{minSize, maxNodes, maxPairs, maxPass}
 use Rattle.rules.specs.Picture.{Pair, WAITING, Row, Picture, withStatus, withRows}
 use Rattle.rules.specs.Picture.{Kept, nothing, kept, keptBy, keptIn, pairsOf, pairsIn, hasAddress, keeps, isSilent, isIgnored, newRow, Seat, seatAt, others, put}
 use Rattle.rules.specs.Event.{Event, START, NCE, SHUTDOWN, ANSWER, NONE, DELAY}
@@ -132,10 +132,11 @@ length-put s r = each-length (each-put (λ (t u : Row). Unit {0}) (λ t. tt) s r
 pub length-counted : (counts : Row → Bool) (f : Row → Row) (s : Seat) → length (put s (s .row)) ≡ length (onCounted counts f s)
 length-counted counts f s = each-length (each-counted (λ (t u : Row). Unit {0}) (λ t. tt) counts f (λ t e. tt) s tt)
 
--- a sound picture that can still count its passes
+-- sound rows, a pass of four bytes, and an L that is not too small
 pub record Sound (p : Picture) : Type 0 where
   pub rows : SoundRows (p .rows)
   pub pass : p .pass ≤ maxPass
+  pub size : minSize ≤ p .size
 
 -- what decoding grants
 abbrev pub Formed : Event → Type 0
@@ -166,7 +167,7 @@ new-rows n l m = record { few = rw length-replicate (omega arith); apart = pairw
 
 module _ (p : Picture) (h : Sound p) where
   module _ (c x : ℕ) (s : Seated p c x) where
-    split-rows : SoundRows (put (seatAt (p .rows) x) (seatAt (p .rows) x .row))
+    pub split-rows : SoundRows (put (seatAt (p .rows) x) (seatAt (p .rows) x .row))
     split-rows = subst SoundRows (s .split) (h .rows)
 
     sound-put : (r : Row) → Sheds (seatAt (p .rows) x .row) r → SoundRows (put (seatAt (p .rows) x) r)
@@ -201,13 +202,13 @@ module _ (p : Picture) (h : Sound p) where
   unfolding begin scan scanned shutDown changeRows withRows delayEnds keepAnswer
   sound-ways =
       record {
-        starts = λ n l f. record { rows = new-rows n (f .0) (f .1); pass = l };
-        rescans = λ n l f. record { rows = new-rows n (f .0) (f .1); pass = l };
-        shuts = λ f. record { rows = no-rows; pass = h .pass };
-        silences = λ c x s o f. record { rows = sound-put c x s _ (sheds-silenced _); pass = h .pass };
-        delays = λ c d f. record { rows = sound-each _ _ (h .rows) (each-map Sheds asked sheds-asked (p .rows)); pass = h .pass };
-        bars = λ c x a ps s o z f. record { rows = sound-put c x s _ (sheds-ignored a _); pass = h .pass };
-        ignores = λ c x a ps s o counts k z f. record { rows = sound-counted c x s counts _ (sheds-out a); pass = h .pass };
-        restarts = λ c x a ps s o counts b l f. record { rows = sound-each _ _ (sound-counted c x s counts counted sheds-counted) (each-map Sheds emptied sheds-emptied _); pass = l };
-        keeps = λ c x a ps s o k f. record { rows = sound-keep c x s a ps f (k .unkept); pass = h .pass };
+        starts = λ n l f. record { rows = new-rows n (f .0) (f .1); pass = l; size = h .size };
+        rescans = λ n l f. record { rows = new-rows n (f .0) (f .1); pass = l; size = h .size };
+        shuts = λ f. record { rows = no-rows; pass = h .pass; size = h .size };
+        silences = λ c x s o f. record { rows = sound-put c x s _ (sheds-silenced _); pass = h .pass; size = h .size };
+        delays = λ c d f. record { rows = sound-each _ _ (h .rows) (each-map Sheds asked sheds-asked (p .rows)); pass = h .pass; size = h .size };
+        bars = λ c x a ps s o z f. record { rows = sound-put c x s _ (sheds-ignored a _); pass = h .pass; size = h .size };
+        ignores = λ c x a ps s o counts k z f. record { rows = sound-counted c x s counts _ (sheds-out a); pass = h .pass; size = h .size };
+        restarts = λ c x a ps s o counts b l f. record { rows = sound-each _ _ (sound-counted c x s counts counted sheds-counted) (each-map Sheds emptied sheds-emptied _); pass = l; size = h .size };
+        keeps = λ c x a ps s o k f. record { rows = sound-keep c x s a ps f (k .unkept); pass = h .pass; size = h .size };
       }

@@ -1,6 +1,6 @@
 -- All the ways in which a record is taken, once: a property of every change is shown way by way, and of every record by `offered-cases`.
 use Prim.Native.Nat.{ℕ, zero, suc, _<_, _≤_}
-use mathlib.Core.Path.{_≡_, refl, sym, ap}
+use mathlib.Core.Path.{_≡_, refl, sym, ap, subst}
 use mathlib.Core.Bool.{Bool, true, false, not, _&&_, _||_}
 use mathlib.Core.List.{List, [], _∷_, map}
 use mathlib.Core.Option.{Option, none, some}
@@ -23,11 +23,11 @@ use Rattle.rules.specs.Ending.{pictureOf, ordersOf}
 use Rattle.rules.specs.Run.{Outcome, refused, taken, onEvent, onDecoded, concluded, step, Record, offered}
 
 -- a property of what is changed, if anything is
-abbrev pub Always : (Change → Type 0) → Response → Type 0
+abbrev Always : (Change → Type 0) → Response → Type 0
 Always P (refuse n) = Unit {0}
 Always P (change c) = P c
 
-pub always-refuseIf : (P : Change → Type 0) (b : Bool) (n : ℕ) (r : Response) → (b ≡ false → Always P r) → Always P (refuseIf b n r)
+always-refuseIf : (P : Change → Type 0) (b : Bool) (n : ℕ) (r : Response) → (b ≡ false → Always P r) → Always P (refuseIf b n r)
 unfolding refuseIf
 always-refuseIf P true n r f = tt
 always-refuseIf P false n r f = f refl
@@ -141,7 +141,7 @@ module _ (p : Picture) (P : Event → Change → Type 0) (w : Ways p P) where
         (λ h. in-conflict nobody (nobody-keeps a) (inr (all-map (λ (r : Row) (e : keeps a r ≡ false) (f : keeps a r ≡ true). clash f e) (any-none (keeps a) (others (seatAt (p .rows) x)) h))))
         (λ h. w .keeps c x a ps s o h)
 
-  pub in-every-way : (e : Event) → Always (P e) (respond p e)
+  in-every-way : (e : Event) → Always (P e) (respond p e)
   unfolding respond
   in-every-way (START n) = always-refuseIf (P (START n)) _ _ _ (λ h. w .starts n (room-for-pass (p .pass) h))
   in-every-way (NCE n) = always-refuseIf (P (NCE n)) _ _ _ (λ h. w .rescans n (room-for-pass (p .pass) h))
@@ -160,6 +160,10 @@ module _ (p : Picture) (P : Event → Change → Type 0) (w : Ways p P) where
       (λ h. w .silences c x (seated p c x e f g) (not-false (isOpen (seatAt (p .rows) x .row)) h)))))
   in-every-way (DELAY c) =
       always-refuseIf (P (DELAY c)) _ _ _ (λ e. always-refuseIf (P (DELAY c)) _ _ _ (λ f. w .delays c (not-false (p .delay) f)))
+
+  -- what every way has, every event that is taken has
+  pub every-taken : (e : Event) (c : Change) → respond p e ≡ change c → P e c
+  every-taken e c h = subst (Always (P e)) h (in-every-way e)
 
 -- what a record meets: a refusal, or an event that is taken and changes the picture
 pub data Offered (p : Picture) (r : Record) : Outcome → Type 0 where

@@ -5,7 +5,7 @@ use lib.ListN.{replicate}
 use Rattle.laws.specs.Lists.{collect, upFrom}
 use Rattle.rules.specs.Run.{Record}
 use Rattle.rules.specs.Telegram.{countIs, cutTo, opened, stillOpen}
-use Rattle.rules.specs.Table.{hex, with512, gives, noOrders, refusal, entry, records, listingAfter, toCount, toCut, toJoin, results, listing, count, telegram, joined, Edge, edge}
+use Rattle.rules.specs.Table.{hex, withRoom, gives, noOrders, refusal, entry, records, listingAfter, toCount, toCut, toJoin, results, listing, count, telegram, joined, Edge, edge}
 
 -- the 63 ASKs of pass 1
 unfoldable pub asks63 : List ℕ
@@ -15,52 +15,52 @@ asks63 = collect (λ (x : ℕ). hex 7 0x4D4F_01_00000001 ++ x ∷ []) (upFrom 1 
 -- "One bench session, whole (L = 12)"
 abbrev pub session : List Record
 session =
-    with512 8 0x4D45_01_00000000_03
-    ∷ with512 13 0x4D45_04_00000001_01_0101_01_2201
-    ∷ with512 13 0x4D45_04_00000001_02_0102_01_2201
-    ∷ with512 13 0x4D45_04_00000001_02_0102_01_2202
+    withRoom 8 0x4D45_01_00000000_03
+    ∷ withRoom 13 0x4D45_04_00000001_01_0101_01_2201
+    ∷ withRoom 13 0x4D45_04_00000001_02_0102_01_2201
+    ∷ withRoom 13 0x4D45_04_00000001_02_0102_01_2202
     ∷ []
 
 -- a unit that refuses every renumbering of its only pair
 abbrev pub stubborn : List Record
 stubborn =
-    with512 8 0x4D45_01_00000000_03
-    ∷ with512 13 0x4D45_04_00000001_01_0101_01_2201
-    ∷ with512 13 0x4D45_04_00000001_02_0102_01_2201
-    ∷ with512 13 0x4D45_04_00000001_02_0102_01_2201
-    ∷ with512 13 0x4D45_04_00000001_02_0102_01_2201
-    ∷ with512 13 0x4D45_04_00000001_02_0102_01_2201
+    withRoom 8 0x4D45_01_00000000_03
+    ∷ withRoom 13 0x4D45_04_00000001_01_0101_01_2201
+    ∷ withRoom 13 0x4D45_04_00000001_02_0102_01_2201
+    ∷ withRoom 13 0x4D45_04_00000001_02_0102_01_2201
+    ∷ withRoom 13 0x4D45_04_00000001_02_0102_01_2201
+    ∷ withRoom 13 0x4D45_04_00000001_02_0102_01_2201
     ∷ []
 
 unfoldable pub edges : List Edge
 unfolding hex asks63
 edges =
     -- * START 1 gives OK at once
-    edge (records 12 (with512 8 0x4D45_01_00000000_01 ∷ [])) (results (gives 7 0x4D4F_03_00000001 ∷ []))
+    edge (records 12 (withRoom 8 0x4D45_01_00000000_01 ∷ [])) (results (gives 7 0x4D4F_03_00000001 ∷ []))
     -- * N 0 and 65 refusal 2, 64 taken
-    ∷ edge (records 12 (with512 8 0x4D45_01_00000000_00 ∷ with512 8 0x4D45_01_00000000_41 ∷ with512 8 0x4D45_01_00000000_40 ∷ []))
+    ∷ edge (records 12 (withRoom 8 0x4D45_01_00000000_00 ∷ withRoom 8 0x4D45_01_00000000_41 ∷ withRoom 8 0x4D45_01_00000000_40 ∷ []))
     (results (refusal 2 ∷ refusal 2 ∷ record { number = 0; length = 504; bytes = asks63 } ∷ []))
     -- * address 0100 bad, 0101 good
-    ∷ edge (records 12 (with512 8 0x4D45_01_00000000_02 ∷ with512 11 0x4D45_04_00000001_01_0100_00 ∷ with512 11 0x4D45_04_00000002_01_0101_00 ∷ []))
+    ∷ edge (records 12 (withRoom 8 0x4D45_01_00000000_02 ∷ withRoom 11 0x4D45_04_00000001_01_0100_00 ∷ withRoom 11 0x4D45_04_00000002_01_0101_00 ∷ []))
     (results (gives 8 0x4D4F_01_00000001_01 ∷ gives 15 0x4D4F_04_00000002_4D4F_01_00000002_01 ∷ gives 7 0x4D4F_03_00000002 ∷ []))
     -- 02FF good, * 0300 bad
-    ∷ edge (records 12 (with512 8 0x4D45_01_00000000_02 ∷ with512 11 0x4D45_04_00000001_01_0300_00 ∷ with512 11 0x4D45_04_00000002_01_02FF_00 ∷ []))
+    ∷ edge (records 12 (withRoom 8 0x4D45_01_00000000_02 ∷ withRoom 11 0x4D45_04_00000001_01_0300_00 ∷ withRoom 11 0x4D45_04_00000002_01_02FF_00 ∷ []))
     (results (gives 8 0x4D4F_01_00000001_01 ∷ gives 15 0x4D4F_04_00000002_4D4F_01_00000002_01 ∷ gives 7 0x4D4F_03_00000002 ∷ []))
     -- * count 17 refused; 16 taken
     ∷ edge
     (records 12
-    (with512 8 0x4D45_01_00000000_02
-    ∷ with512 45 0x4D45_04_00000001_01_0101_11_2201_2202_2203_2204_2205_2206_2207_2208_2209_220A_220B_220C_220D_220E_220F_2210_2211
-    ∷ with512 43 0x4D45_04_00000001_01_0101_10_2201_2202_2203_2204_2205_2206_2207_2208_2209_220A_220B_220C_220D_220E_220F_2210
+    (withRoom 8 0x4D45_01_00000000_02
+    ∷ withRoom 45 0x4D45_04_00000001_01_0101_11_2201_2202_2203_2204_2205_2206_2207_2208_2209_220A_220B_220C_220D_220E_220F_2210_2211
+    ∷ withRoom 43 0x4D45_04_00000001_01_0101_10_2201_2202_2203_2204_2205_2206_2207_2208_2209_220A_220B_220C_220D_220E_220F_2210
     ∷ []))
     (results (gives 8 0x4D4F_01_00000001_01 ∷ refusal 2 ∷ gives 7 0x4D4F_03_00000001 ∷ []))
     -- * number 00 and FF renumbered, FE kept
     ∷ edge
     (records 12
-    (with512 8 0x4D45_01_00000000_02
-    ∷ with512 17 0x4D45_04_00000001_01_0101_03_2200_22FF_22FE
-    ∷ with512 17 0x4D45_04_00000001_01_0101_03_2201_22FF_22FE
-    ∷ with512 17 0x4D45_04_00000001_01_0101_03_2201_2202_22FE
+    (withRoom 8 0x4D45_01_00000000_02
+    ∷ withRoom 17 0x4D45_04_00000001_01_0101_03_2200_22FF_22FE
+    ∷ withRoom 17 0x4D45_04_00000001_01_0101_03_2201_22FF_22FE
+    ∷ withRoom 17 0x4D45_04_00000001_01_0101_03_2201_2202_22FE
     ∷ []))
     (results
     (gives 8 0x4D4F_01_00000001_01
@@ -69,10 +69,10 @@ edges =
     ∷ gives 7 0x4D4F_03_00000001
     ∷ []))
     -- * room 511 refusal 1; 512 taken
-    ∷ edge (records 12 (record { bytes = hex 8 0x4D45_01_00000000_01; room = 511 } ∷ with512 8 0x4D45_01_00000000_01 ∷ []))
+    ∷ edge (records 12 (record { bytes = hex 8 0x4D45_01_00000000_01; room = 511 } ∷ record { bytes = hex 8 0x4D45_01_00000000_01; room = 512 } ∷ []))
     (results (refusal 1 ∷ gives 7 0x4D4F_03_00000001 ∷ []))
     -- * NONE of an old pass after NCE, 5
-    ∷ edge (records 12 (with512 8 0x4D45_01_00000000_02 ∷ with512 8 0x4D45_02_00000000_02 ∷ with512 8 0x4D45_05_00000001_01 ∷ []))
+    ∷ edge (records 12 (withRoom 8 0x4D45_01_00000000_02 ∷ withRoom 8 0x4D45_02_00000000_02 ∷ withRoom 8 0x4D45_05_00000001_01 ∷ []))
     (results (gives 8 0x4D4F_01_00000001_01 ∷ gives 15 0x4D4F_04_00000002_4D4F_01_00000002_01 ∷ refusal 5 ∷ []))
     -- * payload 12 at L = 12: one telegram
     ∷ edge (toCount 12 12) (count (countIs 1))
@@ -104,15 +104,15 @@ edges =
     -- two units with one address: both are IGNORED, and silences for both are refusal 7
     ∷ edge
     (records 12
-    (with512 8 0x4D45_01_00000000_03
-    ∷ with512 11 0x4D45_04_00000001_01_0101_00
-    ∷ with512 11 0x4D45_04_00000001_02_0101_00
-    ∷ with512 11 0x4D45_04_00000002_01_0101_00
-    ∷ with512 11 0x4D45_04_00000002_02_0101_00
-    ∷ with512 11 0x4D45_04_00000003_01_0101_00
-    ∷ with512 11 0x4D45_04_00000003_02_0101_00
-    ∷ with512 8 0x4D45_05_00000003_01
-    ∷ with512 8 0x4D45_05_00000003_02
+    (withRoom 8 0x4D45_01_00000000_03
+    ∷ withRoom 11 0x4D45_04_00000001_01_0101_00
+    ∷ withRoom 11 0x4D45_04_00000001_02_0101_00
+    ∷ withRoom 11 0x4D45_04_00000002_01_0101_00
+    ∷ withRoom 11 0x4D45_04_00000002_02_0101_00
+    ∷ withRoom 11 0x4D45_04_00000003_01_0101_00
+    ∷ withRoom 11 0x4D45_04_00000003_02_0101_00
+    ∷ withRoom 8 0x4D45_05_00000003_01
+    ∷ withRoom 8 0x4D45_05_00000003_02
     ∷ []))
     (results
     (gives 16 0x4D4F_01_00000001_01_4D4F_01_00000001_02
@@ -128,12 +128,12 @@ edges =
     -- units exchanged at a re-plug: the SET of the new pass goes to the address announced in it
     ∷ edge
     (records 12
-    (with512 8 0x4D45_01_00000000_03
-    ∷ with512 13 0x4D45_04_00000001_01_0101_01_2201
-    ∷ with512 13 0x4D45_04_00000001_02_0102_01_2202
-    ∷ with512 8 0x4D45_02_00000000_03
-    ∷ with512 13 0x4D45_04_00000002_01_0102_01_2201
-    ∷ with512 13 0x4D45_04_00000002_02_0101_01_2201
+    (withRoom 8 0x4D45_01_00000000_03
+    ∷ withRoom 13 0x4D45_04_00000001_01_0101_01_2201
+    ∷ withRoom 13 0x4D45_04_00000001_02_0102_01_2202
+    ∷ withRoom 8 0x4D45_02_00000000_03
+    ∷ withRoom 13 0x4D45_04_00000002_01_0102_01_2201
+    ∷ withRoom 13 0x4D45_04_00000002_02_0101_01_2201
     ∷ []))
     (results
     (gives 16 0x4D4F_01_00000001_01_4D4F_01_00000001_02
@@ -144,6 +144,6 @@ edges =
     ∷ gives 13 0x4D4F_02_00000002_02_0101_22_01_02
     ∷ []))
     -- a silent unit does not hold back OK
-    ∷ edge (records 12 (with512 8 0x4D45_01_00000000_03 ∷ with512 13 0x4D45_04_00000001_01_0101_01_2201 ∷ with512 8 0x4D45_05_00000001_02 ∷ []))
+    ∷ edge (records 12 (withRoom 8 0x4D45_01_00000000_03 ∷ withRoom 13 0x4D45_04_00000001_01_0101_01_2201 ∷ withRoom 8 0x4D45_05_00000001_02 ∷ []))
     (results (gives 16 0x4D4F_01_00000001_01_4D4F_01_00000001_02 ∷ noOrders ∷ gives 14 0x4D4F_03_00000001_4D4F_07_00000001 ∷ []))
     ∷ []

@@ -62,10 +62,17 @@ unfoldable pub waitOrder : Picture → List Order
 waitOrder p =
     cond (waits p) (cond (any (λ (r : Row). isSilent r && ltb (r .silences) maxSilences) (p .rows)) WAIT-SHORT WAIT-LONG ∷ []) []
 
+-- the ending of an event whose steps left picture q: the picture afterwards, and the orders OK and WAIT
+unfoldable pub ended : Picture → Picture
+ended q = let p = settled q in withDelay (p .delay || waits p) p
+
+unfoldable pub endOrders : Picture → List Order
+endOrders q = okOrder q ++ waitOrder (settled q)
+
 -- "Within one event: NOTOK, ASKs ascending, INVALID, NEW, SET, OK, WAIT."
 unfoldable pub ordersOf : Picture → Change → List Order
-ordersOf b c = c .first ++ told b (c .picture) ++ c .set ++ okOrder (c .picture) ++ waitOrder (settled (c .picture))
+ordersOf b c = (c .first ++ told b (c .picture) ++ c .set) ++ endOrders (c .picture)
 
 -- the picture that the event leaves
 unfoldable pub pictureOf : Change → Picture
-pictureOf c = let p = settled (c .picture) in withDelay (p .delay || waits p) p
+pictureOf c = ended (c .picture)

@@ -11,7 +11,7 @@ use Rattle.rules.specs.Claims.{Demand3, Bounds, Fits, Refusal, Carried, 
 use Rattle.rules.specs.Table.{obtained, expected}
 use Rattle.rules.specs.Edges.{edges as edgeTable}
 use Rattle.rules.specs.Cases.{cases as caseTable}
-use Rattle.rules.specs.Tight.{LongestWay, LargestEvent}
+use Rattle.rules.specs.Tight.{LongestWay}
 
 pub record Promises : Type 0 where
   -- of every list of records from a fresh picture for L; a picture for an L that is not 12 to 45 is one for 12
@@ -38,4 +38,3 @@ pub record Promises : Type 0 where
   pub edges : obtained edgeTable ≡ expected edgeTable
   pub cases : obtained caseTable ≡ expected caseTable
   pub longestWay : LongestWay
-  pub largestEvent : LargestEvent

@@ -2,6 +2,7 @@
 use Prim.Native.Nat.{ℕ, zero, suc, _/_, _%_, _^_}
 use mathlib.Core.List.{List, [], _∷_, map}
 use lib.ListN.{replicate, take}
+use Rattle.rules.specs.House.{minRoom}
 use Rattle.rules.specs.Picture.{Picture, fresh, freshNumber}
 use Rattle.rules.specs.Run.{Record, Result}
 use Rattle.rules.specs.Listing.{Entry, Lookup}
@@ -13,9 +14,9 @@ unfoldable pub hex : (bytes : ℕ) → ℕ → List ℕ
 hex zero n = []
 hex (suc k) n = n / 256 ^ k % 256 ∷ hex k n
 
--- a record with 512 bytes of order room
-abbrev pub with512 : (bytes : ℕ) → ℕ → Record
-with512 k n = record { bytes = hex k n; room = 512 }
+-- a record with just enough order room
+abbrev pub withRoom : (bytes : ℕ) → ℕ → Record
+withRoom k n = record { bytes = hex k n; room = minRoom }
 
 -- a record that is taken and gives orders; one that is taken and gives none; one that is refused
 abbrev pub gives : (bytes : ℕ) → ℕ → Result

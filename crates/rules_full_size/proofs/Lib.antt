@@ -1,2 +1,4 @@
--- The table holds.
+-- What is computed at full size.
 pub mod FullSize
+pub mod Largest
+pub mod Promises

@@ -1,1 +1,2 @@
 pub mod FullSize
+pub mod Promises

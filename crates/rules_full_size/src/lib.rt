@@ -1,1 +1,1 @@
-// Telegrams of full size as a table over the rules; no code.
+// What the rules give at full size: a table of telegrams, and the largest event; no code.

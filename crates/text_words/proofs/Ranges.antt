@@ -1,10 +1,10 @@
 -- Digits: what a byte's place among the ranges says of its value.
 use Prim.Native.Nat.{ℕ, _+_, _-_, _≤_, _<_}
-use mathlib.Core.Path.{_≡_, refl, _∙_}
-use mathlib.Core.Bool.{Bool, true, false, _&&_}
+use mathlib.Core.Path.{_≡_, _∙_}
+use mathlib.Core.Bool.{true, false}
 use borrow.Author.Tests.{le-leb, lt-leb}
 use lib.Dec.{leb}
-use Rattle.laws.specs.Bools.{and-true, cond-true, cond-false}
+use Rattle.laws.specs.Bools.{and-true, and-none, cond-true, cond-false}
 use Rattle.text_words.specs.Text.{within, hexValue}
 
 module _ (low high b : ℕ) where
@@ -15,11 +15,7 @@ module _ (low high b : ℕ) where
   below h = rw (lt-leb low b h)
 
   pub above : high < b → within low high b ≡ false
-  above h = rw (lt-leb b high h) (last (leb low b))
-    where
-      last : (t : Bool) → t && false ≡ false
-      last true = refl
-      last false = refl
+  above h = rw (lt-leb b high h) (and-none (leb low b))
 
 module _ (b : ℕ) where
   pub decimal-digit : within 48 57 b ≡ true → hexValue b ≡ b - 48

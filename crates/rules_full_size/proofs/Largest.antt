@@ -1,0 +1,10 @@
+-- The largest event, by computation.
+use mathlib.Core.Path.{refl}
+use Rattle.rules.specs.Evaluate.{play}
+use Rattle.rules.specs.Claims.{pictureAt, recordAt}
+use Rattle.rules.specs.Table.{hex}
+use Rattle.rules.specs.Tight.{fullRing, LargestEvent}
+
+pub largestEvent : LargestEvent
+unfolding play recordAt pictureAt hex fullRing
+largestEvent = record { bytes = refl }

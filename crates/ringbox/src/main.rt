@@ -10,12 +10,14 @@ ghost use Rattle.registry.specs.Outcome.{Reached};
 use command::Command;
 use command::MAX_RECORD;
 use command::MAX_ROOM;
+use numbers::DONE;
 use registry::image::RegistryImage;
 use text_answers::LineKind;
 use text_arguments::TOO_LONG;
 use text_in::CHUNK;
 use text_in::Input;
 use text_in::MAX_LINE;
+use text_numbers::Asked;
 use text_out::Output;
 use text_out::SPACE;
 use text_words::numbers::smaller;
@@ -55,8 +57,8 @@ fn fresh(bench: Bench, text: &mut [u8; SPACE], l: usize) -> Bench
     let picture = made.picture;
     let number = answer.number();
     let room = bench.room;
-    if number != 0 {
-        let refused = text_answers::refusal(asked, text, number);
+    if number != DONE {
+        let refused = text_answers::refusal(asked, text, Asked::Picture, number);
         return Bench {
             picture,
             room,
@@ -106,8 +108,8 @@ fn recorded_lines(
     number: u8,
     length: usize,
 ) -> Output {
-    if number != 0 {
-        return text_answers::refusal(output, text, number);
+    if number != DONE {
+        return text_answers::refusal(output, text, Asked::Record, number);
     }
     let taken = output.line(text, b"= taken");
     let end = smaller(length, orders.len());

@@ -1,5 +1,6 @@
 // What a picture shows: state, listing, rows, and where a pair is listed.
 use super::order_lines;
+use numbers::DONE;
 use registry::image::RegistryImage;
 use ring_listing::Listing;
 use ring_lookup::Lookup;
@@ -11,6 +12,7 @@ use row_entry::NodeEntry;
 use row_entry::SETTING;
 use row_entry::SILENT;
 use sizes::MAX_LISTED;
+use text_numbers::Asked;
 use text_out::Output;
 use text_out::SPACE;
 use wire_address::NodePosition;
@@ -83,8 +85,8 @@ pub fn listing(output: Output, text: &mut [u8; SPACE], listing: Listing) -> Outp
 // Where a pair is listed, or the refusal.
 pub fn found(output: Output, text: &mut [u8; SPACE], found: Lookup) -> Output {
     let number = found.number();
-    if number != 0 {
-        return text_answers::refusal(output, text, number);
+    if number != DONE {
+        return text_answers::refusal(output, text, Asked::LookUp, number);
     }
     let position = found.position();
     let address = found.address();

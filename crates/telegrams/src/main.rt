@@ -7,6 +7,7 @@ use command::Command;
 use command::MAX_BUFFER;
 use command::MAX_PAYLOAD;
 use command::MAX_TELEGRAM;
+use numbers::DONE;
 use tel_join_state::JoinAnswer;
 use tel_join_state::Reassembly;
 use text_answers::LineKind;
@@ -14,6 +15,7 @@ use text_arguments::TOO_LONG;
 use text_in::CHUNK;
 use text_in::Input;
 use text_in::MAX_LINE;
+use text_numbers::Asked;
 use text_out::Output;
 use text_out::SPACE;
 use text_words::numbers::smaller;
@@ -118,8 +120,8 @@ fn fill(desk: Desk, text: &mut [u8; SPACE], payload: &mut [u8], n: usize, seed: 
 fn counted(output: Output, text: &mut [u8; SPACE], payload: &[u8], l: usize) -> Output {
     let answer = tel_count::count(l, payload);
     let number = answer.number();
-    if number != 0 {
-        return text_answers::refusal(output, text, number);
+    if number != DONE {
+        return text_answers::refusal(output, text, Asked::Telegram, number);
     }
     let values = [answer.telegrams()];
     output.form(text, b"= count %d\n", &values)
@@ -143,8 +145,8 @@ fn telegram(
 ) -> Output {
     let answer = tel_cut::cut(l, msg_id, payload, number, room);
     let refused = answer.number();
-    if refused != 0 {
-        return text_answers::refusal(output, text, refused);
+    if refused != DONE {
+        return text_answers::refusal(output, text, Asked::Telegram, refused);
     }
     let length = smaller(answer.length(), room.len());
     let name = output.bytes(text, b"= telegram ");
@@ -257,7 +259,7 @@ fn join(desk: Desk, text: &mut [u8; SPACE], buffer: &mut [u8], l: usize, bytes: 
     let next = joined.state;
     match answer {
         JoinAnswer::Refused(number) => {
-            let refused = text_answers::refusal(told, text, number);
+            let refused = text_answers::refusal(told, text, Asked::Telegram, number);
             Desk {
                 payload: desk.payload,
                 joining: next,

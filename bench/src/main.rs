@@ -12,10 +12,12 @@ use std::process::ExitCode;
 use std::time::{Duration, Instant};
 
 use boxes::{ProvedRing, ProvedTelegrams, ReferenceRing, ReferenceTelegrams, RingBox, TelegramBox};
-use lathepetal::{FlatListing, JoinState, Picture, MAX_LISTED, MAX_PAYLOAD};
+use lathepetal::{FlatListing, JoinState, Picture};
+use reference::player::fill;
 use reference::registry::{Entry, Ring};
+use reference::sizes::{BENCH_ROOM, MAX_LISTED, MAX_NODES, MAX_PAIRS, MAX_PAYLOAD, MAX_SIZE, MAX_TELEGRAM, MIN_SIZE, TELEGRAM_HEAD};
 use reference::telegrams::Joining;
-use workloads::{Records, ROOM};
+use workloads::Records;
 
 const MSG_ID: u32 = 0x2202_100C;
 
@@ -83,7 +85,7 @@ impl Bench {
         let outputs = (outputs::<ProvedRing>(records), outputs::<ReferenceRing>(records));
         self.agrees &= outputs.0 == outputs.1;
         let unit = Unit::Each(records.measured.len());
-        let (mut proved_room, mut reference_room) = ([0; ROOM], [0; ROOM]);
+        let (mut proved_room, mut reference_room) = ([0; BENCH_ROOM], [0; BENCH_ROOM]);
         let proved = picture::<ProvedRing>(&records.before);
         let reference = picture::<ReferenceRing>(&records.before);
         let (proved, reference) = (&proved, &reference);
@@ -150,9 +152,9 @@ fn add(sum: u64, value: u64) -> u64 {
 }
 
 fn picture<B: RingBox>(records: &[Vec<u8>]) -> B {
-    let mut ring = B::fresh(12).1;
+    let mut ring = B::fresh(MIN_SIZE).1;
     for record in records {
-        ring.record(record, &mut [0; ROOM]);
+        ring.record(record, &mut [0; BENCH_ROOM]);
     }
     ring
 }
@@ -175,10 +177,10 @@ fn play<B: RingBox>(mut ring: B, records: &[Vec<u8>], room: &mut [u8]) -> u64 {
 
 /// All that the records give, and the listing at their end.
 fn outputs<B: RingBox>(records: &Records) -> (Vec<u8>, FlatListing) {
-    let mut ring = B::fresh(12).1;
+    let mut ring = B::fresh(MIN_SIZE).1;
     let mut all = Vec::new();
     for record in records.before.iter().chain(&records.measured) {
-        let mut room = [0; ROOM];
+        let mut room = [0; BENCH_ROOM];
         let (number, length) = ring.record(record, &mut room);
         all.push(number);
         all.extend_from_slice(&(length as u32).to_be_bytes());
@@ -190,7 +192,7 @@ fn outputs<B: RingBox>(records: &Records) -> (Vec<u8>, FlatListing) {
 fn cut_all<B: TelegramBox>(l: usize, payload: &[u8]) -> Vec<Vec<u8>> {
     let (_, count) = B::count(l, payload);
     let one = |number| {
-        let mut room = [0; lathepetal::MAX_TELEGRAM];
+        let mut room = [0; MAX_TELEGRAM];
         let (_, length) = B::cut(l, MSG_ID, payload, number, &mut room);
         room[..length].to_vec()
     };
@@ -198,12 +200,13 @@ fn cut_all<B: TelegramBox>(l: usize, payload: &[u8]) -> Vec<Vec<u8>> {
 }
 
 fn cut<B: TelegramBox>(l: usize, payload: &[u8], count: usize) -> u64 {
-    let mut room = [0; lathepetal::MAX_TELEGRAM];
+    let mut room = [0; MAX_TELEGRAM];
     let mut sum = 1;
     for number in 1..=count {
         let (refusal, length) = B::cut(l, MSG_ID, black_box(payload), number, &mut room);
         black_box(&room);
-        sum = add(sum, u64::from(refusal) << 32 | (length as u64) << 16 | u64::from(room[6]) << 8 | u64::from(room[length - 1]));
+        sum =
+            add(sum, u64::from(refusal) << 32 | (length as u64) << 16 | u64::from(room[TELEGRAM_HEAD]) << 8 | u64::from(room[length - 1]));
     }
     sum
 }
@@ -226,7 +229,7 @@ fn listings_and_look_ups(bench: &mut Bench) {
     bench.agrees &= proved.listing() == reference.listing();
     let mut entries = [Entry { position: 0, address: 0, block: 0, number: 0 }; MAX_LISTED];
     bench.line(
-        "listing of 1,008 pairs",
+        &format!("listing of {MAX_LISTED} pairs"),
         Unit::Each(1),
         || {
             let listing = lathepetal::listing(black_box(proved.0));
@@ -243,7 +246,7 @@ fn listings_and_look_ups(bench: &mut Bench) {
     );
     let sum = |(number, position, address): (u8, u8, u16)| add(u64::from(number), u64::from(position) << 16 | u64::from(address));
     bench.line(
-        "look-up of the last of 1,008 pairs",
+        &format!("look-up of the last of {MAX_LISTED} pairs"),
         Unit::Each(1),
         || sum(black_box(&proved).look_up(block, number)),
         || sum(black_box(&reference).look_up(block, number)),
@@ -254,8 +257,8 @@ fn listings_and_look_ups(bench: &mut Bench) {
 fn stack_of<B: RingBox>(lists: &[Records]) -> usize {
     let mut most = 0;
     for list in lists {
-        let mut ring = B::fresh(12).1;
-        let mut room = [0; ROOM];
+        let mut ring = B::fresh(MIN_SIZE).1;
+        let mut room = [0; BENCH_ROOM];
         for record in list.before.iter().chain(&list.measured) {
             let taken = stack::taken_by(|| {
                 black_box(ring.record(record, &mut room));
@@ -297,15 +300,15 @@ fn main() -> ExitCode {
     let mut bench = Bench { plan, agrees: true };
     let answers = [workloads::days(days), workloads::full_answers(), workloads::bad_answers()];
     bench.records("bench day, N = 8, each record", &answers[0]);
-    bench.records("ANSWER of 16 pairs, 1,008 listed", &answers[1]);
-    bench.records("ANSWER of 16 bad pairs, none free, and back", &answers[2]);
-    bench.records("NONE, N = 64", &workloads::silences());
-    bench.records("NCE, N = 64", &workloads::replugs());
-    bench.records("refused records, N = 64", &workloads::refusals());
+    bench.records(&format!("ANSWER of {MAX_PAIRS} pairs, {MAX_LISTED} listed"), &answers[1]);
+    bench.records(&format!("ANSWER of {MAX_PAIRS} bad pairs, none free, and back"), &answers[2]);
+    bench.records(&format!("NONE, N = {MAX_NODES}"), &workloads::silences());
+    bench.records(&format!("NCE, N = {MAX_NODES}"), &workloads::replugs());
+    bench.records(&format!("refused records, N = {MAX_NODES}"), &workloads::refusals());
     listings_and_look_ups(&mut bench);
-    let payload: Vec<u8> = (0..MAX_PAYLOAD).map(|i| (i * 31 + i / 256 * 7) as u8).collect();
-    bench.telegrams(12, &payload);
-    bench.telegrams(45, &payload);
+    let payload = fill(MAX_PAYLOAD, 0);
+    bench.telegrams(MIN_SIZE, &payload);
+    bench.telegrams(MAX_SIZE, &payload);
     let [_, full, bad] = answers;
     memory(&[workloads::days(1), full, bad, workloads::conflicts()]);
 

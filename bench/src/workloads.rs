@@ -1,19 +1,18 @@
 //! The records that the benchmark plays: each list is made once, by playing it in the reference.
 
+use reference::registry::Pair;
+use reference::sizes::{BENCH_ROOM, MAX_LISTED, MAX_NODES, MAX_PAIRS, MAX_UNITS, MIN_SIZE};
+use reference::wire::{answer, event, DELAY, NCE, NONE, SHUTDOWN, START};
+
 use crate::boxes::{ReferenceRing, RingBox};
 
-const START: u8 = 1;
-const NCE: u8 = 2;
-const SHUTDOWN: u8 = 3;
-const ANSWER: u8 = 4;
-const NONE: u8 = 5;
-const DELAY: u8 = 6;
-
-/// The order room that is lent.
-pub const ROOM: usize = 8192;
-/// The block and the numbers that fill it.
+const NODES: u8 = MAX_NODES as u8;
+const LAST: u8 = MAX_UNITS as u8;
+const PAIRS: u8 = MAX_PAIRS as u8;
+/// A block of which the full rows at the first positions hold all numbers.
 const FULL_BLOCK: u8 = 0x22;
-const LAST: u8 = 63;
+const NUMBERS: u8 = 254;
+const FULL_ROWS: u8 = NUMBERS.div_ceil(PAIRS);
 
 type Pairs = Vec<(u8, u8)>;
 
@@ -32,7 +31,7 @@ struct Maker {
 
 impl Maker {
     fn new() -> Maker {
-        Maker { ring: ReferenceRing::fresh(12).1, records: Vec::new() }
+        Maker { ring: ReferenceRing::fresh(MIN_SIZE).1, records: Vec::new() }
     }
 
     fn pass(&self) -> u32 {
@@ -40,34 +39,33 @@ impl Maker {
     }
 
     fn offer(&mut self, record: Vec<u8>) -> u8 {
-        let (number, _) = self.ring.record(&record, &mut [0; ROOM]);
+        let (number, _) = self.ring.record(&record, &mut [0; BENCH_ROOM]);
         self.records.push(record);
         number
     }
 
-    fn taken(&mut self, kind: u8, pass: u32, x: u8, rest: &[u8]) {
-        let number = self.offer(record(kind, pass, x, rest));
-        assert_eq!(number, 0, "each record is taken");
+    fn taken(&mut self, record: Vec<u8>) {
+        assert_eq!(self.offer(record), 0, "each record is taken");
     }
 
     fn start(&mut self, nodes: u8) {
-        self.taken(START, 0, nodes, &[]);
+        self.taken(event(START, 0, nodes));
     }
 
     fn replug(&mut self, nodes: u8) {
-        self.taken(NCE, 0, nodes, &[]);
+        self.taken(event(NCE, 0, nodes));
     }
 
     fn none(&mut self, position: u8) {
-        self.taken(NONE, self.pass(), position, &[]);
+        self.taken(event(NONE, self.pass(), position));
     }
 
     fn delay(&mut self) {
-        self.taken(DELAY, self.pass(), 0, &[]);
+        self.taken(event(DELAY, self.pass(), 0));
     }
 
     fn answer(&mut self, position: u8, pairs: &[(u8, u8)]) {
-        self.taken(ANSWER, self.pass(), position, &announcement(position, pairs));
+        self.taken(announcement(self.pass(), position, position, pairs));
     }
 
     /// The records so far lead to the picture at which the measured ones begin.
@@ -76,15 +74,10 @@ impl Maker {
     }
 }
 
-fn record(kind: u8, pass: u32, x: u8, rest: &[u8]) -> Vec<u8> {
-    [&[0x4D, 0x45, kind][..], &pass.to_be_bytes(), &[x], rest].concat()
-}
-
-/// Address, count and pairs; each position has one address.
-fn announcement(position: u8, pairs: &[(u8, u8)]) -> Vec<u8> {
-    let mut bytes = vec![0x01, position, pairs.len() as u8];
-    bytes.extend(pairs.iter().flat_map(|&(block, number)| [block, number]));
-    bytes
+/// The ANSWER of a position with the address of the unit at `whose`.
+fn announcement(pass: u32, position: u8, whose: u8, pairs: &[(u8, u8)]) -> Vec<u8> {
+    let pairs: Vec<Pair> = pairs.iter().map(|&(block, number)| Pair { block, number }).collect();
+    answer(pass, position, 0x0100 + u16::from(whose), &pairs)
 }
 
 /// Ordinary bench days of a ring of eight: answers of one to six pairs, two amplifiers with one number, a unit that is silent for some
@@ -107,7 +100,7 @@ pub fn days(days: usize) -> Records {
         scan_of_day(&mut maker);
         maker.answer(7, &[(0x60, 1), (0x61, 1)]);
         unasked_of_day(&mut maker);
-        maker.taken(SHUTDOWN, 0, 0, &[]);
+        maker.taken(event(SHUTDOWN, 0, 0));
     }
     Records { before: Vec::new(), measured: maker.records }
 }
@@ -131,54 +124,53 @@ fn unasked_of_day(maker: &mut Maker) {
     maker.answer(5, &[(0x50, 1), (0x51, 1), (0x52, 1), (0x53, 1)]);
 }
 
-/// Sixteen pairs of each position, 1,008 in all. Those of positions 1 to 16 hold all 254 numbers of one block.
+/// As many pairs of each position as a row keeps. Those of the first positions hold all numbers of one block.
 fn full_row(position: u8) -> Pairs {
-    (0..16u8)
-        .map(|index| match 16 * (position - 1).min(16) as usize + index as usize + 1 {
-            number @ 1..=254 => (FULL_BLOCK, number as u8),
-            _ => (0x80 + index, position),
-        })
-        .collect()
+    let own = |index: u8| match MAX_PAIRS * (position as usize - 1) + index as usize {
+        place if place < NUMBERS as usize => (FULL_BLOCK, place as u8 + 1),
+        _ => (0x80 + index, position),
+    };
+    (0..PAIRS).map(own).collect()
 }
 
-/// A ring of 64 with full rows, in OK.
+/// The greatest ring with full rows, in OK.
 fn full_ring() -> Maker {
     let mut maker = Maker::new();
-    maker.start(64);
+    maker.start(NODES);
     (1..=LAST).for_each(|position| maker.answer(position, &full_row(position)));
-    assert_eq!(maker.ring.0.listing().len(), 1008);
+    assert_eq!(maker.ring.0.listing().len(), MAX_LISTED);
     maker
 }
 
-/// Each unit of the full ring announces sixteen other pairs, and then its own again.
+/// Units of the full ring announce a full row of other pairs, and then their own again.
 pub fn full_answers() -> Records {
     let mut maker = full_ring();
     let before = maker.before();
-    for position in 17..=LAST {
+    for position in FULL_ROWS + 1..=LAST {
         let own = full_row(position);
-        let other: Pairs = own.iter().map(|&(block, number)| (block + 0x10, number)).collect();
+        let other: Pairs = own.iter().map(|&(block, number)| (block + 0x40, number)).collect();
         maker.answer(position, &other);
         maker.answer(position, &own);
     }
     Records { before, measured: maker.records }
 }
 
-/// Units of the full ring announce sixteen pairs of the full block, all bad and with no free number, and then their own again.
+/// Units of the full ring announce a full row of the full block's pairs, all bad and with no free number, and then their own again.
 pub fn bad_answers() -> Records {
     let mut maker = full_ring();
     let before = maker.before();
-    for position in 17..=LAST {
-        let bad: Pairs = (0..16).map(|index| (FULL_BLOCK, 239 + index)).collect();
+    for position in FULL_ROWS + 1..=LAST {
+        let bad: Pairs = (0..PAIRS).map(|index| (FULL_BLOCK, NUMBERS - index)).collect();
         maker.answer(position, &bad);
         maker.answer(position, &full_row(position));
     }
     Records { before, measured: maker.records }
 }
 
-/// All units of a ring of 64 are silent, round after round.
+/// All units of the greatest ring are silent, round after round.
 pub fn silences() -> Records {
     let mut maker = Maker::new();
-    maker.start(64);
+    maker.start(NODES);
     let before = maker.before();
     for _ in 0..25 {
         (1..=LAST).for_each(|position| maker.none(position));
@@ -187,11 +179,11 @@ pub fn silences() -> Records {
     Records { before, measured: maker.records }
 }
 
-/// A ring of 64 is plugged anew, again and again.
+/// The greatest ring is plugged anew, again and again.
 pub fn replugs() -> Records {
     let mut maker = full_ring();
     let before = maker.before();
-    (0..200).for_each(|_| maker.replug(64));
+    (0..200).for_each(|_| maker.replug(NODES));
     Records { before, measured: maker.records }
 }
 
@@ -200,18 +192,18 @@ pub fn refusals() -> Records {
     let mut maker = full_ring();
     let before = maker.before();
     let pass = maker.pass();
-    let mut bad_block = full_row(40);
-    bad_block[15].0 = 0xFF;
+    let mut bad_block = full_row(LAST);
+    bad_block[MAX_PAIRS - 1].0 = 0xFF;
     for position in 1..=LAST {
         let pairs = full_row(position);
         for record in [
-            record(ANSWER, pass, position, &announcement(position, &bad_block)),
-            record(START, 0, 64, &[]),
-            record(ANSWER, pass + 1, position, &announcement(position, &pairs)),
-            record(ANSWER, pass, 64, &announcement(position, &pairs)),
-            record(NONE, pass, position, &[]),
-            record(DELAY, pass, 0, &[]),
-            record(7, pass, 0, &[]),
+            announcement(pass, position, position, &bad_block),
+            event(START, 0, NODES),
+            announcement(pass + 1, position, position, &pairs),
+            announcement(pass, NODES, position, &pairs),
+            event(NONE, pass, position),
+            event(DELAY, pass, 0),
+            event(0, pass, 0),
             Vec::new(),
         ] {
             assert_ne!(maker.offer(record), 0, "each record is refused");
@@ -224,15 +216,15 @@ pub fn refusals() -> Records {
 pub fn conflicts() -> Records {
     let mut maker = full_ring();
     for _ in 0..2 {
-        maker.taken(ANSWER, maker.pass(), 2, &announcement(1, &full_row(2)));
+        maker.taken(announcement(maker.pass(), 2, 1, &full_row(2)));
         (1..=LAST).for_each(|position| maker.answer(position, &full_row(position)));
     }
-    maker.taken(ANSWER, maker.pass(), 2, &announcement(1, &full_row(2)));
-    maker.taken(ANSWER, maker.pass(), 3, &announcement(1, &full_row(3)));
+    maker.taken(announcement(maker.pass(), 2, 1, &full_row(2)));
+    maker.taken(announcement(maker.pass(), 3, 1, &full_row(3)));
     Records { before: Vec::new(), measured: maker.records }
 }
 
 /// The full ring's records, and the pair that is listed last.
 pub fn full_picture() -> (Vec<Vec<u8>>, (u8, u8)) {
-    (full_ring().records, full_row(LAST)[15])
+    (full_ring().records, full_row(LAST)[MAX_PAIRS - 1])
 }

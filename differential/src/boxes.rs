@@ -2,9 +2,21 @@
 
 use std::fmt;
 
-use lathepetal::{FlatListing, JoinState, Picture, MAX_ENTRIES, MAX_LISTED, MAX_PAIRS};
+use lathepetal::{FlatListing, JoinState, Picture, MAX_LISTED, MAX_PAIRS, MAX_UNITS};
 use reference::registry::{Ring, State, Status};
+use reference::sizes;
 use reference::telegrams::{self, Joining};
+
+// Both sides have the same sizes.
+const _: () = {
+    assert!(MAX_UNITS == sizes::MAX_UNITS && MAX_PAIRS == sizes::MAX_PAIRS && MAX_LISTED == sizes::MAX_LISTED);
+    assert!(lathepetal::MIN_SIZE == sizes::MIN_SIZE && lathepetal::MAX_SIZE == sizes::MAX_SIZE);
+    assert!(lathepetal::MIN_ROOM == sizes::MIN_ROOM && lathepetal::MAX_PAYLOAD == sizes::MAX_PAYLOAD);
+    assert!(lathepetal::MAX_TELEGRAM == sizes::MAX_TELEGRAM);
+};
+
+/// The statuses of a row, by number.
+pub const STATUSES: [&str; 5] = ["WAITING", "SETTING", "LISTED", "SILENT", "IGNORED"];
 
 /// One row of a picture, with zeros for what it does not keep.
 #[derive(Clone, Copy, PartialEq, Default)]
@@ -23,7 +35,7 @@ pub struct ShownRow {
 /// As `rows` writes it, with place and tries of the renumbering.
 impl fmt::Debug for ShownRow {
     fn fmt(&self, f: &mut fmt::Formatter) -> fmt::Result {
-        let status = ["WAITING", "SETTING", "LISTED", "SILENT", "IGNORED"].get(self.status as usize).unwrap_or(&"?");
+        let status = STATUSES.get(self.status as usize).unwrap_or(&"?");
         let address = self.address.map_or("----".to_string(), |address| format!("{address:04X}"));
         write!(f, "{status} {address} bad {} silent {} place {} tries {}", self.bad, self.silences, self.place, self.tries)?;
         let count = self.count as usize;
@@ -41,7 +53,7 @@ pub struct Shown {
     pub delay: bool,
     pub open: u8,
     /// Position p stands at p - 1.
-    pub rows: [ShownRow; MAX_ENTRIES],
+    pub rows: [ShownRow; MAX_UNITS],
 }
 
 impl Shown {
@@ -87,7 +99,7 @@ impl RingBox for ProvedRing {
 
     fn show(&self) -> Shown {
         let picture = &self.0;
-        let mut rows = [ShownRow::default(); MAX_ENTRIES];
+        let mut rows = [ShownRow::default(); MAX_UNITS];
         let units = picture.units as usize;
         for (row, entry) in rows.iter_mut().zip(&picture.entries).take(units) {
             row.status = entry.status;
@@ -142,7 +154,7 @@ impl RingBox for ReferenceRing {
     fn fresh(l: usize) -> (u8, ReferenceRing) {
         match Ring::fresh(narrow(l)) {
             Ok(ring) => (0, ReferenceRing(ring)),
-            Err(number) => (number, ReferenceRing(Ring::fresh(12).expect("12 is a payload size"))),
+            Err(number) => (number, ReferenceRing(Ring::default())),
         }
     }
 
@@ -151,7 +163,7 @@ impl RingBox for ReferenceRing {
     }
 
     fn show(&self) -> Shown {
-        let mut rows = [ShownRow::default(); MAX_ENTRIES];
+        let mut rows = [ShownRow::default(); MAX_UNITS];
         for (position, row) in self.0.rows() {
             let shown = &mut rows[position as usize - 1];
             shown.status = match row.status() {

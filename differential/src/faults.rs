@@ -2,6 +2,7 @@
 
 use lathepetal::FlatListing;
 use reference::player::{play_bytes, Bench, Ringbox, Telegrams};
+use reference::{refusal, sizes, wire};
 
 use crate::boxes::{Joined, ReferenceRing, ReferenceTelegrams, RingBox, Shown, TelegramBox};
 use crate::script::Found;
@@ -11,7 +12,7 @@ const WAITS_SHORT_FOR_EVER: u8 = 0;
 const LOSES_THE_NUMBER_FE: u8 = 1;
 const FORGETS_A_LOOK_UP: u8 = 2;
 const WRITES_BEHIND_THE_ORDERS: u8 = 3;
-const CHANGES_BESIDE_7: u8 = 4;
+const CHANGES_BESIDE_A_REFUSAL: u8 = 4;
 const LISTS_BEHIND_THE_COUNT: u8 = 5;
 const PASSES_THE_LAST_PASS: u8 = 6;
 
@@ -29,12 +30,12 @@ impl<const FAULT: u8> RingBox for Faulty<FAULT> {
         let (number, length) = self.0.record(bytes, out);
         let pass = self.0.show().pass;
         match FAULT {
-            WAITS_SHORT_FOR_EVER if out[..length].ends_with(&[&[0x4D, 0x4F, 8][..], &pass.to_be_bytes()].concat()) => {
-                out[length - 5] = 7;
+            WAITS_SHORT_FOR_EVER if wire::orders(&out[..length]).last().is_some_and(|order| order[wire::KIND] == wire::WAIT_LONG) => {
+                out[length - wire::ORDER_HEAD + wire::KIND] = wire::WAIT_SHORT;
             }
             WRITES_BEHIND_THE_ORDERS if length > 40 && out.len() > length => out[length] ^= 1,
-            CHANGES_BESIDE_7 if number == 7 => self.0.set_pass(pass + 1),
-            PASSES_THE_LAST_PASS if number == 9 => return (0, 0),
+            CHANGES_BESIDE_A_REFUSAL if number == refusal::POSITION_IGNORED => self.0.set_pass(pass + 1),
+            PASSES_THE_LAST_PASS if number == refusal::NO_PASS_LEFT => return (0, 0),
             _ => {}
         }
         (number, length)
@@ -60,7 +61,7 @@ impl<const FAULT: u8> RingBox for Faulty<FAULT> {
 
     fn look_up(&self, block: u8, number: u8) -> (u8, u8, u16) {
         match self.0.look_up(block, number) {
-            (0, 4, _) if FAULT == FORGETS_A_LOOK_UP => (17, 0, 0),
+            (0, 4, _) if FAULT == FORGETS_A_LOOK_UP => (refusal::NOT_LISTED, 0, 0),
             found => found,
         }
     }
@@ -89,8 +90,8 @@ impl<const FAULT: u8> TelegramBox for FaultyTelegrams<FAULT> {
 
     fn cut(l: usize, msg_id: u32, payload: &[u8], number: usize, out: &mut [u8]) -> (u8, usize) {
         let (refusal, length) = ReferenceTelegrams::cut(l, msg_id, payload, number, out);
-        if FAULT == COUNTS_TO_127 && length > 6 && number > 128 {
-            out[6] &= 0x7F;
+        if FAULT == COUNTS_TO_127 && length > sizes::TELEGRAM_HEAD && number > 128 {
+            out[sizes::TELEGRAM_HEAD] &= 0x7F;
         }
         (refusal, length)
     }
@@ -100,7 +101,7 @@ impl<const FAULT: u8> TelegramBox for FaultyTelegrams<FAULT> {
         let mut joined = self.0.join(l, buffer, telegram);
         match FAULT {
             DROPS_THE_LAST_BYTE if joined.length > 30 => joined.length -= 1,
-            KEEPS_A_MESSAGE_OPEN if joined.number == 16 => *self = before,
+            KEEPS_A_MESSAGE_OPEN if joined.number == refusal::OUT_OF_SEQUENCE => *self = before,
             _ => {}
         }
         joined
@@ -159,7 +160,7 @@ fn lent_room() {
 
 #[test]
 fn a_refusal() {
-    is_short(Ringbox::new(), &ring_fault::<CHANGES_BESIDE_7>(), ">", 5);
+    is_short(Ringbox::new(), &ring_fault::<CHANGES_BESIDE_A_REFUSAL>(), ">", 5);
 }
 
 #[test]
@@ -176,7 +177,7 @@ fn the_last_pass() {
 
 #[test]
 fn a_message() {
-    is_short(Telegrams::new(), &telegram_fault::<DROPS_THE_LAST_BYTE>(), "join", 3);
+    is_short(Telegrams::new(), &telegram_fault::<DROPS_THE_LAST_BYTE>(), "join", 4);
 }
 
 #[test]

@@ -13,7 +13,8 @@ mod telegrams;
 use std::process::ExitCode;
 use std::time::{Instant, SystemTime, UNIX_EPOCH};
 
-use boxes::{ProvedRing, ProvedTelegrams};
+use boxes::{ProvedRing, ProvedTelegrams, STATUSES};
+use reference::{refusal, wire};
 use script::Found;
 
 const USAGE: &str = "usage: differential [SEED] [RECORDS] [TELEGRAMS]";
@@ -75,12 +76,12 @@ fn different(seed: u64, program: &str, played: usize, found: Found) -> ExitCode 
 fn report(registry: &scenes::Tally, transport: &streams::Tally) {
     let names =
         |names: &[&str], counts: &[usize]| -> String { names.iter().zip(counts).map(|(name, count)| format!(" {name} {count}")).collect() };
+    let numbers = |counts: &[usize], from: u8, to: u8| -> String { (from..=to).map(|n| format!(" {n} {}", counts[n as usize])).collect() };
     let kinds = ["ASK", "SET", "OK", "NOTOK", "NEW", "INVALID", "WAIT SHORT", "WAIT LONG"];
-    let statuses = ["WAITING", "SETTING", "LISTED", "SILENT", "IGNORED"];
     eprintln!("{} sessions; at most {} pairs listed", registry.sessions, registry.listed);
-    eprintln!("records by number:{}", names(&["0", "1", "2", "3", "4", "5", "6", "7", "8", "9"], &registry.numbers));
-    eprintln!("orders:{}", names(&kinds, &registry.orders[1..]));
-    eprintln!("rows seen:{}", names(&statuses, &registry.rows));
-    eprintln!("telegram refusals:{}", names(&["10", "11", "12", "13", "14", "15", "16"], &transport.numbers[10..]));
+    eprintln!("records by number:{}", numbers(&registry.numbers, 0, refusal::NO_PASS_LEFT));
+    eprintln!("orders:{}", names(&kinds, &registry.orders[wire::ASK as usize..]));
+    eprintln!("rows seen:{}", names(&STATUSES, &registry.rows));
+    eprintln!("telegram refusals:{}", numbers(&transport.numbers, refusal::ILLEGAL_SIZE, refusal::OUT_OF_SEQUENCE));
     eprintln!("{} messages joined", transport.messages);
 }

@@ -3,18 +3,19 @@
 use crate::boxes::{ReferenceRing, RingBox, Shown};
 use crate::minimize::{minimize, Simpler};
 use crate::script::{differ, differ_at, must, must_at, Difference, Found};
+use reference::registry::Ring;
+use reference::sizes::{BENCH_ROOM, MAX_NODES};
+use reference::wire::{event, ADDRESS, ANSWER, ANSWER_HEAD, COUNT, DELAY, KIND, NCE, NONE, PASS, RECORD_HEAD, RECORD_MARK, START, X};
 
-/// The most order room that is lent.
-pub const MAX_ROOM: usize = 8192;
 const GUARD: usize = 64;
 /// Lent room begins at this many places in turn, so that it has every alignment.
 const STARTS: usize = 16;
-const AREA: usize = STARTS + MAX_ROOM + 2 * GUARD;
+const AREA: usize = STARTS + BENCH_ROOM + 2 * GUARD;
 
 /// One step of a session.
 #[derive(Clone)]
 pub enum Step {
-    /// A record with `room` bytes of order room, filled with the pattern from place `fill` on. Kinds 4 to 6 carry a pass that is
+    /// A record with `room` bytes of order room, filled with the pattern from place `fill` on. Kinds with a pass carry one that is
     /// `ahead` of the current one, so that a session keeps its sense when steps are dropped.
     Record { bytes: Vec<u8>, ahead: u32, room: usize, fill: usize },
     /// The pass is set in both pictures.
@@ -31,13 +32,24 @@ impl Step {
         Step::Record { bytes: bytes.to_vec(), ahead, room, fill: fill % AREA }
     }
 
+    /// An NCE as a START.
+    fn as_start(&self) -> Option<Step> {
+        match self {
+            Step::Record { bytes, ahead, room, fill } if nodes(bytes).is_some() && bytes[KIND] == NCE => {
+                let bytes = event(START, 0, bytes[X]);
+                Some(Step::Record { bytes, ahead: *ahead, room: *room, fill: *fill })
+            }
+            _ => None,
+        }
+    }
+
     /// The step in a ring without the unit at a position, where it is still one.
     fn without_unit(&self, position: u8) -> Option<Step> {
         let Step::Record { bytes, ahead, room, fill } = self else { return Some(self.clone()) };
         let mut bytes = bytes.clone();
         match bytes[..] {
-            [_, _, 4 | 5, _, _, _, _, x, ..] if x == position => return None,
-            [_, _, 1 | 2 | 4 | 5, _, _, _, _, x, ..] if x > position => bytes[7] = x - 1,
+            [_, _, ANSWER | NONE, _, _, _, _, x, ..] if x == position => return None,
+            [_, _, START | NCE | ANSWER | NONE, _, _, _, _, x, ..] if x > position => bytes[X] = x - 1,
             _ => {}
         }
         Some(Step::Record { bytes, ahead: *ahead, room: *room, fill: *fill })
@@ -46,45 +58,64 @@ impl Step {
 
 impl Simpler for Step {
     fn simpler(&self) -> Vec<Step> {
-        let Step::Record { bytes, ahead, room, fill } = self else { return Vec::new() };
-        let with = |bytes: Vec<u8>, room: usize| Step::Record { bytes, ahead: *ahead, room, fill: *fill };
-        let mut steps = Vec::new();
-        if *room != MAX_ROOM {
-            steps.push(with(bytes.clone(), MAX_ROOM));
-        }
-        if bytes.len() == 8 && bytes[2] < 3 && bytes[7] > 1 {
-            for nodes in [bytes[7] / 2, bytes[7] - 1] {
-                steps.push(with([&bytes[..7], &[nodes]].concat(), *room));
+        match self {
+            Step::Pass(u32::MAX) => Vec::new(),
+            Step::Pass(_) => vec![Step::Pass(u32::MAX)],
+            Step::Record { bytes, ahead, room, fill } => {
+                let with = |bytes: Vec<u8>, room: usize| Step::Record { bytes, ahead: *ahead, room, fill: *fill };
+                let roomy = (*room != BENCH_ROOM).then(|| with(bytes.clone(), BENCH_ROOM));
+                roomy.into_iter().chain(simpler_records(bytes).into_iter().map(|bytes| with(bytes, *room))).collect()
             }
         }
-        if bytes.len() > 12 && bytes[2] == 4 && bytes.len() == 11 + 2 * bytes[10] as usize {
-            for at in (11..bytes.len()).step_by(2) {
-                let mut fewer = bytes.clone();
-                fewer.drain(at..at + 2);
-                fewer[10] -= 1;
-                steps.push(with(fewer, *room));
-            }
-        }
-        steps
     }
 
-    /// Sessions without one of the units: the greatest N is less by one.
+    /// Sessions that begin with a later scan, and sessions without one of the units: the greatest N is less by one.
     fn rewritten(steps: &[Step]) -> Vec<Vec<Step>> {
         let nodes = |step: &Step| match step {
-            Step::Record { bytes, .. } if bytes.len() == 8 && bytes[2] < 3 => bytes[7].min(64),
-            _ => 0,
+            Step::Record { bytes, .. } => nodes(bytes),
+            Step::Pass(_) => None,
         };
-        let most = steps.iter().map(nodes).max().unwrap_or(0);
-        (1..most).map(|position| steps.iter().filter_map(|step| step.without_unit(position)).collect()).collect()
+        let most = steps.iter().filter_map(nodes).max().unwrap_or(0).min(MAX_NODES as u8);
+        let later = (1..steps.len()).filter_map(|at| Some([&[steps[at].as_start()?], &steps[at + 1..]].concat()));
+        let smaller = (1..most).map(|position| steps.iter().filter_map(|step| step.without_unit(position)).collect());
+        later.chain(smaller).collect()
     }
 }
 
-/// The pass of a record of kinds 4 to 6.
+/// A scan of a smaller ring; an ANSWER with the unit's own address, or without one of its pairs.
+fn simpler_records(bytes: &[u8]) -> Vec<Vec<u8>> {
+    if let Some(nodes) = nodes(bytes) {
+        let smaller = [nodes / 2, nodes.saturating_sub(1)].into_iter().filter(|&nodes| nodes > 0);
+        return smaller.map(|nodes| [&bytes[..X], &[nodes]].concat()).collect();
+    }
+    if bytes.len() < ANSWER_HEAD || bytes[KIND] != ANSWER || bytes.len() != ANSWER_HEAD + 2 * bytes[COUNT] as usize {
+        return Vec::new();
+    }
+    let mut records = Vec::new();
+    let own = (0x0100 + u16::from(bytes[X])).to_be_bytes();
+    if bytes[ADDRESS] != own {
+        records.push([&bytes[..ADDRESS.start], &own, &bytes[ADDRESS.end..]].concat());
+    }
+    for at in (ANSWER_HEAD..bytes.len()).step_by(2) {
+        let mut fewer = bytes.to_vec();
+        fewer.drain(at..at + 2);
+        fewer[COUNT] -= 1;
+        records.push(fewer);
+    }
+    records
+}
+
+/// The pass of a record of a kind that carries one.
 fn carried_pass(bytes: &[u8]) -> Option<u32> {
     match *bytes {
-        [0x4D, 0x45, 4..=6, p0, p1, p2, p3, ..] => Some(u32::from_be_bytes([p0, p1, p2, p3])),
+        [m0, m1, ANSWER | NONE | DELAY, p0, p1, p2, p3, ..] if [m0, m1] == RECORD_MARK => Some(u32::from_be_bytes([p0, p1, p2, p3])),
         _ => None,
     }
+}
+
+/// N of a record that brings one.
+fn nodes(bytes: &[u8]) -> Option<u8> {
+    (bytes.len() == RECORD_HEAD && matches!(bytes[KIND], START | NCE)).then(|| bytes[X])
 }
 
 /// One ring in both boxes. The pattern is what lent room is filled with.
@@ -112,6 +143,11 @@ impl<P: RingBox> Player<P> {
     /// A pattern made from random words.
     pub fn pattern(mut word: impl FnMut() -> u64) -> Vec<u8> {
         (0..2 * AREA / 8).flat_map(|_| word().to_le_bytes()).collect()
+    }
+
+    /// The reference's ring.
+    pub fn ring(&self) -> &Ring {
+        &self.reference.0
     }
 
     /// What the reference's picture says.
@@ -142,7 +178,7 @@ impl<P: RingBox> Player<P> {
         let Step::Record { bytes, ahead, .. } = step else { return Vec::new() };
         let mut bytes = bytes.clone();
         if carried_pass(&bytes).is_some() {
-            bytes[3..7].copy_from_slice(&self.shown.pass.wrapping_add(*ahead).to_be_bytes());
+            bytes[PASS].copy_from_slice(&self.shown.pass.wrapping_add(*ahead).to_be_bytes());
         }
         bytes
     }
@@ -268,7 +304,7 @@ impl Session {
     fn script<P: RingBox>(&self, steps: &[Step], difference: &Difference) -> String {
         let mut text = format!("fresh {}\n", self.l);
         let mut player = Player::<P>::fresh(self.l, self.pattern.clone()).ok();
-        let mut lent = MAX_ROOM;
+        let mut lent = BENCH_ROOM;
         for step in steps {
             match step {
                 Step::Pass(pass) => text += &format!("# here the pass is set to {pass}, which no script can show\n"),
@@ -295,8 +331,8 @@ impl Session {
 fn hex_of_record(bytes: &[u8]) -> String {
     let mut text = String::new();
     for (index, byte) in bytes.iter().enumerate() {
-        let pairs = bytes.get(2) == Some(&4) && index >= 10 && (index == 10 || index % 2 == 1);
-        if matches!(index, 2 | 3 | 7 | 8) || pairs {
+        let pairs = bytes.get(KIND) == Some(&ANSWER) && (index == COUNT || index >= ANSWER_HEAD && (index - ANSWER_HEAD) % 2 == 0);
+        if [KIND, PASS.start, X, RECORD_HEAD].contains(&index) || pairs {
             text.push(' ');
         }
         text += &format!("{byte:02X}");

@@ -16,6 +16,19 @@ impl Difference {
     }
 }
 
+/// Why a run ends.
+pub enum Stop {
+    /// All is played.
+    Full,
+    Different(Difference),
+}
+
+impl From<Difference> for Stop {
+    fn from(difference: Difference) -> Stop {
+        Stop::Different(difference)
+    }
+}
+
 /// A difference and the shortest script that shows it.
 pub struct Found {
     pub difference: Difference,

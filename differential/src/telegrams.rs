@@ -3,16 +3,14 @@
 use crate::boxes::{ReferenceTelegrams, TelegramBox};
 use crate::minimize::{minimize, Simpler};
 use crate::script::{differ, differ_at, must, must_at, Difference, Found};
-use lathepetal::MAX_PAYLOAD;
+use reference::player::fill;
+use reference::refusal::OUT_OF_SEQUENCE;
+use reference::sizes::{BENCH_PAYLOAD, MAX_PAYLOAD};
 
-/// The most room that is lent.
-pub const MAX_ROOM: usize = 70_000;
-/// The most bytes of a payload.
-pub const MAX_FILL: usize = 70_000;
 const GUARD: usize = 64;
 /// Lent room begins at this many places in turn, so that it has every alignment.
 const STARTS: usize = 16;
-const AREA: usize = STARTS + MAX_ROOM + 2 * GUARD;
+const AREA: usize = STARTS + BENCH_PAYLOAD + 2 * GUARD;
 /// What a script can lend to a join, and its greatest number.
 const SCRIPT_ROOM: usize = MAX_PAYLOAD;
 const SCRIPT_NUMBER: usize = u32::MAX as usize;
@@ -95,16 +93,11 @@ fn hex(bytes: &[u8]) -> String {
     bytes.iter().map(|byte| format!("{byte:02X}")).collect()
 }
 
-/// The payload that the script's `fill` makes.
-pub fn fill(length: usize, seed: u32) -> Vec<u8> {
-    (0..length).map(|i| (i * 31 + i / 256 * 7 + seed as usize) as u8).collect()
-}
-
 /// What a step gave, in both boxes.
 pub enum Given {
     Nothing,
     Telegrams(usize),
-    Telegram(Vec<u8>),
+    Telegram,
     Open,
     /// The length of a message, which stands at the start of the join buffer.
     Message(usize),
@@ -179,7 +172,7 @@ impl<P: TelegramBox> Player<P> {
         if refusal != 0 {
             return Ok(Given::Refused(refusal));
         }
-        Ok(Given::Telegram(rooms[0][start..written].to_vec()))
+        Ok(Given::Telegram)
     }
 
     fn join(&mut self, l: usize, room: usize, telegram: &[u8]) -> Result<Given, Difference> {
@@ -199,8 +192,8 @@ impl<P: TelegramBox> Player<P> {
             }
             number => {
                 must_at("proved: byte of the buffer after a refusal", proved_buffer, kept)?;
-                if number == 16 {
-                    must("proved: open message after 16", self.proved.is_open(), false)?;
+                if number == OUT_OF_SEQUENCE {
+                    must("proved: open message where one is dropped", self.proved.is_open(), false)?;
                 } else {
                     must("proved: state unchanged by a refusal", self.proved == before.0, true)?;
                     must("reference: state unchanged by a refusal", self.reference == before.1, true)?;

@@ -3,11 +3,11 @@
 
 pub const MIN_SIZE: usize = 12;
 pub const MAX_SIZE: usize = 45;
-pub const MAX_ENTRIES: usize = 63;
+pub const MAX_UNITS: usize = 63;
 pub const MAX_PAIRS: usize = 16;
-pub const MAX_LISTED: usize = 1008;
+pub const MAX_LISTED: usize = MAX_UNITS * MAX_PAIRS;
 pub const MIN_ROOM: usize = 512;
-pub const MAX_TELEGRAM: usize = 51;
+pub const MAX_TELEGRAM: usize = 6 + MAX_SIZE;
 pub const MAX_PAYLOAD: usize = 65_535;
 
 /// The numbers given back that a program looks for by name; the header has them all.
@@ -48,7 +48,7 @@ pub struct Picture {
     pub delay: u8,
     pub size: u8,
     pub units: u8,
-    pub entries: [Entry; MAX_ENTRIES],
+    pub entries: [Entry; MAX_UNITS],
 }
 
 #[repr(C)]
@@ -112,11 +112,13 @@ pub struct JoinOutcome {
     pub state: JoinState,
 }
 
-// The sizes that the header asserts.
+// The sizes that the header asserts: no padding but behind the numbers that stand first.
 const _: () = {
     use std::mem::size_of;
-    assert!(size_of::<Entry>() == 40 && size_of::<Picture>() == 2528 && size_of::<FlatListing>() == 5048);
-    assert!(size_of::<FreshOutcome>() == 2532 && size_of::<RecordOutcome>() == 2544 && size_of::<LookUpOutcome>() == 4);
+    const ENTRY: usize = 8 + 2 * MAX_PAIRS;
+    const PICTURE: usize = 8 + MAX_UNITS * ENTRY;
+    assert!(size_of::<Entry>() == ENTRY && size_of::<Picture>() == PICTURE && size_of::<FlatListing>() == 8 + 5 * MAX_LISTED);
+    assert!(size_of::<FreshOutcome>() == 4 + PICTURE && size_of::<RecordOutcome>() == 16 + PICTURE && size_of::<LookUpOutcome>() == 4);
     assert!(size_of::<CountOutcome>() == 16 && size_of::<CutOutcome>() == 16);
     assert!(size_of::<JoinState>() == 16 && size_of::<JoinOutcome>() == 32);
 };

@@ -2,8 +2,11 @@
 
 pub mod generate;
 pub mod player;
+pub mod refusal;
 pub mod registry;
+pub mod sizes;
 pub mod telegrams;
+pub mod wire;
 
 /// The hand-written scripts that play every edge and every outside vector.
 pub mod scripts {

@@ -4,10 +4,13 @@ mod ringbox;
 mod telegrams;
 mod words;
 
+use std::borrow::Cow;
 use std::io::{self, BufRead, Write};
 
+use crate::refusal;
+use crate::sizes::{MAX_PAYLOAD, MAX_SIZE, MIN_ROOM, MIN_SIZE};
 pub use ringbox::Ringbox;
-pub use telegrams::Telegrams;
+pub use telegrams::{fill, Telegrams};
 use words::Words;
 
 /// The most bytes of a line.
@@ -174,26 +177,28 @@ fn put_refusal(out: &mut Vec<u8>, number: u8) {
     put!(out, "! {number}  {}\n", meaning(number));
 }
 
-fn meaning(number: u8) -> &'static str {
-    match number {
-        1 => "order room below 512 bytes",
-        2 => "record malformed",
-        3 => "the ring does not run",
-        4 => "the ring runs already",
-        5 => "not the current pass",
-        6 => "no unit at this position",
-        7 => "the position is ignored",
-        8 => "no open question, or no running delay",
-        9 => "no pass is left",
-        10 => "L is not 12 to 45",
-        11 => "payload above 65535 bytes",
-        12 => "no telegram of this number",
-        13 => "lent room too short",
-        14 => "telegram malformed",
-        15 => "TelID above 3: passed over",
-        16 => "out of sequence: an open message is dropped",
-        17 => "not listed",
-        18 => "the state is not OK",
-        _ => "unknown number",
-    }
+/// A number in words.
+fn meaning(number: u8) -> Cow<'static, str> {
+    let words = match number {
+        refusal::ORDER_ROOM_TOO_SHORT => return format!("order room below {MIN_ROOM} bytes").into(),
+        refusal::RECORD_MALFORMED => "record malformed",
+        refusal::NOT_RUNNING => "the ring does not run",
+        refusal::ALREADY_RUNNING => "the ring runs already",
+        refusal::WRONG_PASS => "not the current pass",
+        refusal::NO_SUCH_POSITION => "no unit at this position",
+        refusal::POSITION_IGNORED => "the position is ignored",
+        refusal::NOT_ASKED => "no open question, or no running delay",
+        refusal::NO_PASS_LEFT => "no pass is left",
+        refusal::ILLEGAL_SIZE => return format!("L is not {MIN_SIZE} to {MAX_SIZE}").into(),
+        refusal::PAYLOAD_TOO_LONG => return format!("payload above {MAX_PAYLOAD} bytes").into(),
+        refusal::NO_SUCH_TELEGRAM => "no telegram of this number",
+        refusal::ROOM_TOO_SHORT => "lent room too short",
+        refusal::TELEGRAM_MALFORMED => "telegram malformed",
+        refusal::TEL_ID_PASSED_OVER => "TelID above 3: passed over",
+        refusal::OUT_OF_SEQUENCE => "out of sequence: an open message is dropped",
+        refusal::NOT_LISTED => "not listed",
+        refusal::NOT_OK => "the state is not OK",
+        0 | refusal::COUNT.. => panic!("number {number} has no words"),
+    };
+    words.into()
 }

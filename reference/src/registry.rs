@@ -3,17 +3,12 @@
 mod orders;
 mod record;
 
+use crate::refusal;
+use crate::sizes::{MAX_LISTED, MAX_NODES, MAX_PAIRS, MIN_ROOM, MIN_SIZE};
+use crate::telegrams::payload_size;
 use orders::Orders;
 use record::{Announcement, Event};
 
-/// The most nodes a ring has, the NetworkMaster at position 0 among them.
-pub const MAX_NODES: usize = 64;
-/// The most pairs a row keeps and an ANSWER carries.
-pub const MAX_PAIRS: usize = 16;
-/// The most entries of a listing.
-pub const MAX_LISTING: usize = (MAX_NODES - 1) * MAX_PAIRS;
-/// The least order room.
-pub const MIN_ROOM: usize = 512;
 /// The good addresses.
 pub const ADDRESS_MIN: u16 = 0x0101;
 pub const ADDRESS_MAX: u16 = 0x02FF;
@@ -224,10 +219,7 @@ pub struct Ring {
 impl Ring {
     /// A fresh picture for payload size `l`, or number 10.
     pub fn fresh(l: u32) -> Result<Ring, u8> {
-        match u8::try_from(l) {
-            Ok(size @ 12..=45) => Ok(Ring::off(0, size)),
-            _ => Err(10),
-        }
+        Ok(Ring::off(0, payload_size(l)? as u8))
     }
 
     fn off(pass: u32, payload_size: u8) -> Ring {
@@ -282,13 +274,13 @@ impl Ring {
 
     /// The listing, by position and announced order.
     pub fn listing(&self) -> Vec<Entry> {
-        let mut entries = Vec::with_capacity(MAX_LISTING);
+        let mut entries = Vec::with_capacity(MAX_LISTED);
         self.each_entry(|entry| entries.push(entry));
         entries
     }
 
     /// Writes the listing to the start of `entries` and gives its length.
-    pub fn listing_into(&self, entries: &mut [Entry; MAX_LISTING]) -> usize {
+    pub fn listing_into(&self, entries: &mut [Entry; MAX_LISTED]) -> usize {
         let mut length = 0;
         self.each_entry(|entry| {
             entries[length] = entry;
@@ -310,25 +302,25 @@ impl Ring {
     /// Position and address of a listed pair, or numbers 18, 17.
     pub fn look_up(&self, block: u8, number: u8) -> Result<(u8, u16), u8> {
         if self.state != State::Ok {
-            return Err(18);
+            return Err(refusal::NOT_OK);
         }
         let pair = Pair { block, number };
         if !self.kept.contains(pair) {
-            return Err(17);
+            return Err(refusal::NOT_LISTED);
         }
         let holds = |(position, row): (u8, &Row)| {
             let address = row.status.kept_address()?;
             row.pairs().contains(&pair).then_some((position, address))
         };
-        self.rows().find_map(holds).ok_or(17)
+        self.rows().find_map(holds).ok_or(refusal::NOT_LISTED)
     }
 
     /// Offers a record: the orders stand at the start of `out`, their length comes back, or a number.
     pub fn record(&mut self, bytes: &[u8], out: &mut [u8]) -> Result<usize, u8> {
         if out.len() < MIN_ROOM {
-            return Err(1);
+            return Err(refusal::ORDER_ROOM_TOO_SHORT);
         }
-        let event = Event::read(bytes).ok_or(2)?;
+        let event = Event::read(bytes).ok_or(refusal::RECORD_MALFORMED)?;
         self.check(&event)?;
         let mut orders = Orders::new(out);
         match event {
@@ -347,29 +339,29 @@ impl Ring {
     fn check(&self, event: &Event) -> Result<(), u8> {
         match (event, self.state) {
             (Event::Start { .. }, State::Off) => {}
-            (Event::Start { .. }, _) => return Err(4),
-            (_, State::Off) => return Err(3),
+            (Event::Start { .. }, _) => return Err(refusal::ALREADY_RUNNING),
+            (_, State::Off) => return Err(refusal::NOT_RUNNING),
             _ => {}
         }
         match *event {
-            Event::Start { .. } | Event::NetworkChange { .. } if self.pass == u32::MAX => Err(9),
+            Event::Start { .. } | Event::NetworkChange { .. } if self.pass == u32::MAX => Err(refusal::NO_PASS_LEFT),
             Event::Answer { pass, position, .. } => {
                 let open = self.check_row(pass, position)?;
                 if open || self.state == State::Ok {
                     Ok(())
                 } else {
-                    Err(8)
+                    Err(refusal::NOT_ASKED)
                 }
             }
             Event::NoAnswer { pass, position } => {
                 if self.check_row(pass, position)? {
                     Ok(())
                 } else {
-                    Err(8)
+                    Err(refusal::NOT_ASKED)
                 }
             }
-            Event::Delay { pass } if pass != self.pass => Err(5),
-            Event::Delay { .. } if !self.delay_runs => Err(8),
+            Event::Delay { pass } if pass != self.pass => Err(refusal::WRONG_PASS),
+            Event::Delay { .. } if !self.delay_runs => Err(refusal::NOT_ASKED),
             _ => Ok(()),
         }
     }
@@ -377,11 +369,11 @@ impl Ring {
     /// Numbers 5 to 7; says whether the row's question is open.
     fn check_row(&self, pass: u32, position: u8) -> Result<bool, u8> {
         if pass != self.pass {
-            return Err(5);
+            return Err(refusal::WRONG_PASS);
         }
-        let row = self.row(position).ok_or(6)?;
+        let row = self.row(position).ok_or(refusal::NO_SUCH_POSITION)?;
         if matches!(row.status, Status::Ignored { .. }) {
-            return Err(7);
+            return Err(refusal::POSITION_IGNORED);
         }
         Ok(row.status.is_open())
     }
@@ -464,7 +456,7 @@ impl Ring {
         let last = |row: u8| self.rows[row as usize].bad + 1 == MAX_BAD;
         let at_limit = last(position) || other.is_some_and(last);
         if !at_limit && self.pass == u32::MAX {
-            return Err(9);
+            return Err(refusal::NO_PASS_LEFT);
         }
         let (first, second) = match other {
             Some(other) => (position.min(other), Some(position.max(other))),
@@ -601,6 +593,13 @@ impl Ring {
             orders.wait(self.pass, short);
             self.delay_runs = true;
         }
+    }
+}
+
+/// A fresh picture for the least payload size, as it comes back beside number 10.
+impl Default for Ring {
+    fn default() -> Ring {
+        Ring::off(0, MIN_SIZE as u8)
     }
 }
 

@@ -1,20 +1,18 @@
 //! Holds the registry to facts that no single scene shows: the bound on replies, refusals, the tables it keeps.
 
 use reference::generate::Random;
-use reference::registry::{Entry, Pair, Ring, State, Status, MAX_LISTING};
-
-fn event(kind: u8, pass: u32, x: u8) -> Vec<u8> {
-    [&[0x4D, 0x45, kind][..], &pass.to_be_bytes(), &[x]].concat()
-}
+use reference::registry::{Entry, Pair, Ring, State, Status};
+use reference::sizes::{MAX_LISTED, MAX_NODES, MAX_PAIRS, MIN_ROOM};
+use reference::wire::{event, ANSWER, DELAY, NCE, NONE, SHUTDOWN, START};
 
 fn answer(ring: &Ring, position: u8, address: u16, pairs: &[[u8; 2]]) -> Vec<u8> {
-    let head = event(4, ring.pass(), position);
+    let head = event(ANSWER, ring.pass(), position);
     [&head[..], &address.to_be_bytes(), &[pairs.len() as u8], pairs.as_flattened()].concat()
 }
 
 fn started(nodes: u8) -> Ring {
     let mut ring = Ring::fresh(12).expect("a good L");
-    ring.record(&event(1, 0, nodes), &mut [0; 512]).expect("START is taken");
+    ring.record(&event(START, 0, nodes), &mut [0; MIN_ROOM]).expect("START is taken");
     ring
 }
 
@@ -30,9 +28,9 @@ fn bound(nodes: u8) -> usize {
 
 fn random_record(random: &mut Random, ring: &Ring, position: u8) -> Vec<u8> {
     if random.chance(3) {
-        return event(5, ring.pass(), position);
+        return event(NONE, ring.pass(), position);
     }
-    let count = random.pick(&[0, 1, 3, 16]);
+    let count = random.pick(&[0, 1, 3, MAX_PAIRS]);
     let pairs: Vec<[u8; 2]> =
         (0..count).map(|_| [random.pick(&[0x22, 0x23]), random.pick(&[0, 1, 2, 3, 255])]).collect();
     let address = match random.below(20) {
@@ -53,7 +51,7 @@ fn every_ring_gets_to_ok_within_the_bound() {
             let open = open_positions(&ring);
             let position = random.pick(&open);
             let record = random_record(&mut random, &ring, position);
-            ring.record(&record, &mut [0; 512]).expect("a reply is taken");
+            ring.record(&record, &mut [0; MIN_ROOM]).expect("a reply is taken");
             taken += 1;
         }
         assert!(taken <= bound(nodes), "{taken} replies for {nodes} nodes");
@@ -63,7 +61,7 @@ fn every_ring_gets_to_ok_within_the_bound() {
 /// Each unit refuses all SETs; the last one of a pass announces a bad address instead of its last answer.
 #[test]
 fn the_bound_is_reached() {
-    let refused = [[0x22, 0x00]; 16];
+    let refused = [[0x22, 0x00]; MAX_PAIRS];
     for nodes in 1..=8 {
         let mut ring = started(nodes);
         let mut taken = 0;
@@ -72,9 +70,10 @@ fn the_bound_is_reached() {
             let open = open_positions(&ring);
             let position = open.iter().copied().find(|&position| Some(position) != liar).unwrap_or(open[0]);
             let status = ring.row(position).expect("a row").status();
-            let at_end = matches!(status, Status::Setting { place: 15, tries: 3, .. });
+            let at_end =
+                matches!(status, Status::Setting { place, tries: 3, .. } if usize::from(place) == MAX_PAIRS - 1);
             let address = if at_end && Some(position) == liar { 0x0300 } else { 0x0100 + u16::from(position) };
-            ring.record(&answer(&ring, position, address, &refused), &mut [0; 512]).expect("a reply is taken");
+            ring.record(&answer(&ring, position, address, &refused), &mut [0; MIN_ROOM]).expect("a reply is taken");
             taken += 1;
         }
         assert_eq!(taken, bound(nodes), "{nodes} nodes");
@@ -123,16 +122,16 @@ fn pictures_hang_together_and_refusals_change_nothing() {
         let mut ring = Ring::fresh(random.range(12, 45) as u32).expect("a good L");
         for _ in 0..400 {
             let record = any_record(&mut random, &ring);
-            let room = random.pick(&[0, 511, 512, 600, 600, 600, 600]);
+            let room = random.pick(&[0, MIN_ROOM - 1, MIN_ROOM, MIN_ROOM + 88, MIN_ROOM + 88, MIN_ROOM + 88]);
             let filler = random.byte();
             let mut out = vec![filler; room];
             let before = ring.clone();
             match ring.record(&record, &mut out) {
-                Ok(length) => assert!(length <= 511 && out[length..].iter().all(|&byte| byte == filler)),
+                Ok(length) => assert!(length < MIN_ROOM && out[length..].iter().all(|&byte| byte == filler)),
                 Err(number) => {
                     assert!((1..=8).contains(&number) && ring == before);
                     assert!(out.iter().all(|&byte| byte == filler));
-                    assert_eq!(number == 1, room < 512);
+                    assert_eq!(number == 1, room < MIN_ROOM);
                 }
             }
             check_invariants(&ring);
@@ -144,12 +143,12 @@ fn any_record(random: &mut Random, ring: &Ring) -> Vec<u8> {
     let nodes = random.range(1, 7) as u8;
     let position = random.below(usize::from(ring.nodes()).max(1) + 1) as u8;
     match random.below(40) {
-        0 => event(2, 0, nodes),
-        1 => event(3, 0, 0),
-        2 | 3 => event(1, 0, nodes),
+        0 => event(NCE, 0, nodes),
+        1 => event(SHUTDOWN, 0, 0),
+        2 | 3 => event(START, 0, nodes),
         4 => (0..random.below(20)).map(|_| random.byte()).collect(),
-        5..=9 => event(6, ring.pass(), 0),
-        10..=16 => event(5, ring.pass(), position),
+        5..=9 => event(DELAY, ring.pass(), 0),
+        10..=16 => event(NONE, ring.pass(), position),
         _ => random_record(random, ring, position),
     }
 }
@@ -161,7 +160,7 @@ fn look_ups_find_exactly_the_listing() {
     for _ in 0..200 {
         let position = random.range(1, 4) as u8;
         let record = random_record(&mut random, &ring, position);
-        let _ = ring.record(&record, &mut [0; 512]);
+        let _ = ring.record(&record, &mut [0; MIN_ROOM]);
         let listing = ring.listing();
         for block in [0x00, 0x22, 0x23, 0x24] {
             for number in 0..=255 {
@@ -179,17 +178,17 @@ fn look_ups_find_exactly_the_listing() {
 
 #[test]
 fn the_greatest_listing() {
-    let mut ring = started(64);
-    for position in 1..64 {
-        let pairs: Vec<[u8; 2]> = (1..=16).map(|number| [0x10 + position, number]).collect();
+    let mut ring = started(MAX_NODES as u8);
+    for position in 1..MAX_NODES as u8 {
+        let pairs: Vec<[u8; 2]> = (1..=MAX_PAIRS as u8).map(|number| [0x10 + position, number]).collect();
         let record = answer(&ring, position, 0x0100 + u16::from(position), &pairs);
-        ring.record(&record, &mut [0; 512]).expect("the answer is taken");
+        ring.record(&record, &mut [0; MIN_ROOM]).expect("the answer is taken");
     }
     let blank = Entry { position: 0, address: 0, block: 0, number: 0 };
-    let mut entries = [blank; MAX_LISTING];
+    let mut entries = [blank; MAX_LISTED];
     assert_eq!(ring.listing_into(&mut entries), 1008);
     assert_eq!(ring.listing(), entries);
-    assert_eq!(ring.look_up(0x4F, 16), Ok((63, 0x013F)));
+    assert_eq!(ring.look_up(0x4F, MAX_PAIRS as u8), Ok((63, 0x013F)));
 }
 
 #[test]
@@ -198,12 +197,12 @@ fn a_block_with_one_number_free_and_with_none() {
         let mut ring = started(19);
         let numbers: Vec<[u8; 2]> = (1..=254).filter(|&number| number != spare).map(|number| [0x22, number]).collect();
         let mut position = 0;
-        for chunk in numbers.chunks(16) {
+        for chunk in numbers.chunks(MAX_PAIRS) {
             position += 1;
             let record = answer(&ring, position, 0x0100 + u16::from(position), chunk);
-            assert_eq!(ring.record(&record, &mut [0; 512]), Ok(0));
+            assert_eq!(ring.record(&record, &mut [0; MIN_ROOM]), Ok(0));
         }
-        let mut out = [0; 512];
+        let mut out = [0; MIN_ROOM];
         let record = answer(&ring, 18, 0x0200, &[[0x22, 0x00]]);
         let length = ring.record(&record, &mut out).expect("the answer is taken");
         if spare == 255 {

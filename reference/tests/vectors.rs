@@ -2,6 +2,7 @@
 
 use reference::registry::{Ring, State, Status};
 use reference::scripts;
+use reference::sizes::MIN_ROOM;
 use reference::telegrams::{count, cut, Joining};
 
 /// One vector: its name, L, and lines `RECORD | ORDER | ORDER`, where an order may be `ASK FROM-TO PASS`
@@ -233,7 +234,7 @@ fn order(text: &str) -> Vec<u8> {
 }
 
 fn play_line(ring: &mut Ring, line: &str) {
-    let mut room = vec![0xAA; 600];
+    let mut room = vec![0xAA; MIN_ROOM + 88];
     let mut parts = line.split('|').map(str::trim);
     let record = parts.next().expect("a record");
     let orders: Vec<&str> = parts.collect();

@@ -9,7 +9,7 @@ ghost use Rattle.rules.specs.Listing.{listing, lookUp, lookupNumber, lookupPosi
 ghost use Rattle.wire_pairs.specs.View.{pairOf};
 ghost use Rattle.ring_listing.specs.View.{flatOf};
 ghost use Rattle.registry.specs.View.{viewOf};
-ghost use Rattle.registry.specs.Outcome.{Does, Reached};
+ghost use Rattle.registry.specs.Outcome.{Does, HandedOut};
 use registry::image::RegistryImage;
 use registry::record::Recorded;
 use ring_listing::Listing;
@@ -32,7 +32,7 @@ pub struct LookupOutcome {
 // A fresh picture for L; 10 where L is outside 12 to 45, and then one for 12.
 #[no_mangle]
 pub extern "C" fn lathepetal_fresh(l: usize) -> FreshOutcome
-    ensures { λ r. ⌜ (r .number ≡ freshNumber l) × (viewOf (r .picture) ≡ fresh l) × Reached (viewOf (r .picture)) ⌝ }
+    ensures { λ r. ⌜ (r .number ≡ freshNumber l) × (viewOf (r .picture) ≡ fresh l) × HandedOut (r .picture) ⌝ }
 {
     let made = RegistryImage::fresh(l);
     let answer = made.answer;
@@ -50,8 +50,9 @@ pub extern "C" fn lathepetal_record(
     bytes: &[u8],
     out: &mut [u8],
 ) -> Recorded
-    requires { ⌜ Reached (viewOf picture) ⌝ }
-    ensures { λ r. ⌜ Does picture (step (viewOf picture) (now (bytes .entry)) (length (now (out .entry)))) (now (out .entry)) r (now (out .exit)) × Reached (viewOf (r .picture)) ⌝ }
+    requires { ⌜ HandedOut picture ⌝ }
+    ensures { λ r. ⌜ Does picture (step (viewOf picture) (now (bytes .entry)) (length (now (out .entry)))) (now (out .entry)) r (now (out .exit))
+        × HandedOut (r .picture) ⌝ }
 {
     picture.record(bytes, out)
 }
@@ -67,7 +68,9 @@ pub extern "C" fn lathepetal_listing(picture: RegistryImage) -> Listing
 // Where a pair is listed; 18 where the state is not OK, 17 where it is listed nowhere.
 #[no_mangle]
 pub extern "C" fn lathepetal_look_up(picture: RegistryImage, block: u8, number: u8) -> LookupOutcome
-    ensures { λ r. ⌜ (r .number ≡ lookupNumber (lookUp (viewOf picture) (pairOf block number))) × (r .position ≡ lookupPosition (lookUp (viewOf picture) (pairOf block number))) × (r .address ≡ lookupAddress (lookUp (viewOf picture) (pairOf block number))) ⌝ }
+    ensures { λ r. ⌜ (r .number ≡ lookupNumber (lookUp (viewOf picture) (pairOf block number)))
+        × (r .position ≡ lookupPosition (lookUp (viewOf picture) (pairOf block number)))
+        × (r .address ≡ lookupAddress (lookUp (viewOf picture) (pairOf block number))) ⌝ }
 {
     let found = picture.look_up(block, number);
     let position = found.position();

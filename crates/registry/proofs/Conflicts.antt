@@ -1,62 +1,43 @@
--- A conflict of addresses, by the counts of those that it is counted for.
-use Prim.Native.Nat.{ℕ, _-_, _<_, _≤_}
+-- A conflict of addresses: at the limit all that are counted are IGNORED, else there is a restart, or no pass is left for one.
+use Prim.Native.Nat.{ℕ, suc, _-_, _<_, _≤_}
 use mathlib.Core.Path.{_≡_, sym, _∙_, ap}
-use mathlib.Core.Bool.{Bool, true, false, cond, _||_}
+use mathlib.Core.Bool.{Bool, true, false, cond}
 use mathlib.Core.List.{[], _∷_, map}
 use borrow.Author.Tests.{le-leb, lt-leb}
 use lib.Dec.{leb}
-use lib.ListN.{getD}
-use Rattle.laws.specs.Bools.{or-true-left, or-true-right, or-false}
 use Rattle.rules.specs.House.{maxPass}
-use Rattle.rules.specs.Picture.{Row, seatAt}
+use Rattle.rules.specs.Picture.{seatAt}
 use Rattle.rules.specs.Order.{NOTOK}
-use Rattle.rules.specs.Step.{change, refuseIf, changeRows, scan, counted, atLimit, onCounted, emptied, conflict}
+use Rattle.rules.specs.Step.{Verdict, change, refuseIf, changeRows, scan, onCounted, emptied, conflict}
 use Rattle.rules.specs.Run.{Outcome, refused, concluded}
-use Rattle.row_entry.specs.declared.NodeEntry.{NodeEntry}
-use Rattle.row_entry.specs.View.{rowOf}
-use Rattle.ring_entries.specs.Tests.{countsFor, struck}
-use Rattle.ring_answer.specs.Hearing.{othersAtLimit}
+use Rattle.row_entry.specs.View.{rowsOf}
+use Rattle.ring_entries.specs.Verdicts.{countsFor, countsAtLimit, limitReached, struck}
 use Rattle.registry.specs.declared.image.RegistryImage.{RegistryImage}
 use Rattle.registry.specs.View.{viewOf}
 use Rattle.registry.specs.Outcome.{Seat, conflictOutcome, ignoreOutcome, restartOutcome}
-use Rattle.registry.proofs.Places.{seat-entry}
+use Rattle.registry.proofs.Places.{index}
 
-module _ (s : RegistryImage) (x : ℕ) (h : Seat s x) (a : ℕ) where
-  own : (d : NodeEntry) → seatAt (viewOf s .rows) x .row ≡ rowOf (getD (s .entries) (x - 1) d)
-  unfolding viewOf
-  own d = seat-entry s x h d
+module _ (s : RegistryImage) (x : ℕ) (h : Seat s x) (a : ℕ) (v : Verdict) {limit : Bool} (e : limit ≡ limitReached v a (seatAt (rowsOf (s .units) (s .entries)) (suc (x - 1)))) where
+  reached : (limit none-left : Bool) → Outcome
+  reached b c =
+      concluded (viewOf s)
+      (cond b (change (changeRows (onCounted (countsFor v a) (struck true a) (seatAt (viewOf s .rows) x)) (viewOf s)))
+      (refuseIf c 9 (change (scan (NOTOK ∷ []) (map emptied (onCounted (countsFor v a) (struck false a) (seatAt (viewOf s .rows) x))) (viewOf s)))))
 
-  -- by the counts
-  module _ (shared : Bool) {limit : Bool} (e : limit ≡ othersAtLimit shared (seatAt (viewOf s .rows) x) a) where
-    reached : Bool → Outcome
-    reached b =
-        concluded (viewOf s)
-        (cond b (change (changeRows (onCounted (countsFor shared a) (struck true a) (seatAt (viewOf s .rows) x)) (viewOf s)))
-        (refuseIf (leb maxPass (s .pass)) 9 (change (scan (NOTOK ∷ []) (map emptied (onCounted (countsFor shared a) (struck false a) (seatAt (viewOf s .rows) x))) (viewOf s)))))
+  by-limit : conflictOutcome v (viewOf s) x a ≡ reached limit (leb maxPass (s .pass))
+  unfolding conflict reached struck viewOf limitReached countsAtLimit
+  by-limit =
+      ap (λ (b : Bool). reached b (leb maxPass (s .pass)))
+      (sym (e ∙ ap (λ (n : ℕ). limitReached v a (seatAt (rowsOf (s .units) (s .entries)) n)) (sym (index s x h))))
 
-    by-counts : conflictOutcome shared (viewOf s) x a ≡ reached (atLimit (counted (seatAt (viewOf s .rows) x .row)) || limit)
-    unfolding conflict reached struck viewOf
-    by-counts = (λ i. reached (atLimit (counted (seatAt (viewOf s .rows) x .row)) || sym e i))
+  pub conflict-limit : limit ≡ true → conflictOutcome v (viewOf s) x a ≡ ignoreOutcome v (viewOf s) x a
+  unfolding reached
+  conflict-limit p = by-limit ∙ ap (λ (b : Bool). reached b (leb maxPass (s .pass))) p
 
-    pub conflict-others : limit ≡ true → conflictOutcome shared (viewOf s) x a ≡ ignoreOutcome shared (viewOf s) x a
-    unfolding reached
-    conflict-others p = by-counts ∙ ap reached (or-true-right (atLimit (counted (seatAt (viewOf s .rows) x .row))) limit p)
+  pub conflict-9 : limit ≡ false → maxPass ≤ s .pass → conflictOutcome v (viewOf s) x a ≡ refused 9
+  unfolding reached refuseIf concluded
+  conflict-9 p l = by-limit ∙ (λ t. reached (p t) (le-leb maxPass (s .pass) l t))
 
-    pub conflict-own : (d : NodeEntry) → atLimit (counted (rowOf (getD (s .entries) (x - 1) d))) ≡ true → conflictOutcome shared (viewOf s) x a ≡ ignoreOutcome shared (viewOf s) x a
-    unfolding reached
-    conflict-own d p = by-counts ∙ ap reached (or-true-left (atLimit (counted (seatAt (viewOf s .rows) x .row))) limit (ap (λ (r : Row). atLimit (counted r)) (own d) ∙ p))
-
-    module _ (d : NodeEntry) (p : limit ≡ false) (q : atLimit (counted (rowOf (getD (s .entries) (x - 1) d))) ≡ false) where
-      pub conflict-9 : maxPass ≤ s .pass → conflictOutcome shared (viewOf s) x a ≡ refused 9
-      unfolding reached refuseIf concluded
-      conflict-9 l =
-          by-counts ∙ ap reached (or-false (atLimit (counted (seatAt (viewOf s .rows) x .row))) limit (ap (λ (r : Row). atLimit (counted r)) (own d) ∙ q) p)
-          ∙ ap (λ (b : Bool). concluded (viewOf s) (refuseIf b 9 (change (scan (NOTOK ∷ []) (map emptied (onCounted (countsFor shared a) (struck false a) (seatAt (viewOf s .rows) x))) (viewOf s)))))
-          (le-leb maxPass (s .pass) l)
-
-      pub conflict-restart : s .pass < maxPass → conflictOutcome shared (viewOf s) x a ≡ restartOutcome shared (viewOf s) x a
-      unfolding reached refuseIf
-      conflict-restart l =
-          by-counts ∙ ap reached (or-false (atLimit (counted (seatAt (viewOf s .rows) x .row))) limit (ap (λ (r : Row). atLimit (counted r)) (own d) ∙ q) p)
-          ∙ ap (λ (b : Bool). concluded (viewOf s) (refuseIf b 9 (change (scan (NOTOK ∷ []) (map emptied (onCounted (countsFor shared a) (struck false a) (seatAt (viewOf s .rows) x))) (viewOf s)))))
-          (lt-leb maxPass (s .pass) l)
+  pub conflict-restart : limit ≡ false → s .pass < maxPass → conflictOutcome v (viewOf s) x a ≡ restartOutcome v (viewOf s) x a
+  unfolding reached refuseIf
+  conflict-restart p l = by-limit ∙ (λ t. reached (p t) (lt-leb maxPass (s .pass) l t))

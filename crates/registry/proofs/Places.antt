@@ -1,11 +1,12 @@
 -- A position of the code's picture: its entry, an entry stored there, and the entries counted with it.
-use Prim.Native.Nat.{ℕ, zero, suc, _-_, _<_, _≤_}
+use Prim.Native.Nat.{ℕ, zero, suc, _-_, _<_, _≤_, min}
 use mathlib.Core.Path.{_≡_, refl, sym, _∙_, ap}
 use mathlib.Core.Bool.{Bool}
 use mathlib.Core.List.{List, [], _∷_, _++_, map}
 use native.Mathlib.Omega.{arith}
 use native.Mathlib.Nat.{not-suc-le-zero, le-of-suc-le-suc}
 use lib.ListN.{length, getD, set, length-map}
+use Rattle.rules.specs.House.{maxUnits}
 use Rattle.rules.specs.Picture.{Row, noRow, withRows, rowAt, seatAt, put}
 use Rattle.rules.specs.Order.{Order}
 use Rattle.rules.specs.Renumber.{Renumbering}
@@ -14,7 +15,6 @@ use Rattle.rules.specs.Ending.{told}
 use Rattle.row_entry.specs.declared.NodeEntry.{NodeEntry}
 use Rattle.row_entry.specs.View.{rowOf, rowsOf}
 use Rattle.row_entry.proofs.Arrays.{rows-length, rows-at, rows-set}
-use Rattle.ring_entries.specs.Tests.{countsFor, struck, struckIf}
 use Rattle.registry.specs.declared.image.RegistryImage.{RegistryImage}
 use Rattle.ring_state.specs.State.{stateOf}
 use Rattle.registry.specs.View.{viewOf}
@@ -22,7 +22,7 @@ use Rattle.registry.specs.Outcome.{Seat}
 use Rattle.ring_answer.specs.Hearing.{replyChange}
 use Rattle.ring_tell.specs.Told.{rowTold}
 use Rattle.registry.proofs.Telling.{told-put}
-use Rattle.ring_answer.proofs.Seats.{seat-row, seat-put, seat-counted}
+use Rattle.ring_entries.proofs.Seats.{seat-row, seat-put}
 
 module _ (s : RegistryImage) (x : ℕ) (h : Seat s x) where
   pub index : x ≡ suc (x - 1)
@@ -43,14 +43,13 @@ module _ (s : RegistryImage) (x : ℕ) (h : Seat s x) where
       rows-set (s .units) (x - 1) e (s .entries) ∙ ap (set (rowsOf (s .units) (s .entries)) (x - 1)) f
       ∙ sym (seat-put (rowsOf (s .units) (s .entries)) (x - 1) index below r)
 
+  pub inside : x - 1 < min (s .units) maxUnits
+  inside = omega (arith, h .first, h .last)
+
   -- the entries that are counted
-  pub put-counted : (shared limit : Bool) (a : ℕ) (d e : NodeEntry) (es : List NodeEntry)
-      → rowsOf (s .units) es ≡ map (struckIf shared limit a) (rowsOf (s .units) (s .entries)) → rowOf e ≡ struck limit a (rowOf (getD (s .entries) (x - 1) d))
-      → rowsOf (s .units) (set es (x - 1) e) ≡ onCounted (countsFor shared a) (struck limit a) (seatAt (rowsOf (s .units) (s .entries)) x)
-  unfolding struckIf
-  put-counted shared limit a d e es f g =
-      rows-set (s .units) (x - 1) e es ∙ (λ k. set (f k) (x - 1) ((g ∙ ap (struck limit a) (entry-row d)) k))
-      ∙ sym (seat-counted (rowsOf (s .units) (s .entries)) (x - 1) index below (countsFor shared a) (struck limit a))
+  pub counted-at : (counts : Row → Bool) (f : Row → Row) {rs : List Row} → rs ≡ onCounted counts f (seatAt (rowsOf (s .units) (s .entries)) (suc (x - 1)))
+      → rs ≡ onCounted counts f (seatAt (rowsOf (s .units) (s .entries)) x)
+  counted-at counts f e = e ∙ ap (λ (n : ℕ). onCounted counts f (seatAt (rowsOf (s .units) (s .entries)) n)) (sym index)
 
   -- what is told where one entry changes
   pub told-entry : (d : NodeEntry) (r : Row)

@@ -15,7 +15,7 @@ use Rattle.rules.specs.Picture.{Picture, State, Row, Pair, isNotOk, isOpen, isI
 use Rattle.rules.specs.Event.{Event, START, NCE, SHUTDOWN, ANSWER, NONE, DELAY}
 use Rattle.rules.specs.Renumber.{finished}
 use Rattle.rules.specs.Step.{Response, refuse, change, refuseIf, noPosition, respond, changeRows, setOrder, silenced}
-use Rattle.rules.specs.Run.{Outcome, refused, concluded}
+use Rattle.rules.specs.Run.{refused, concluded}
 use Rattle.row_entry.specs.declared.NodeEntry.{NodeEntry}
 use Rattle.row_entry.specs.View.{rowOf, rowsOf}
 use Rattle.row_entry.proofs.Arrays.{rows-length}

@@ -1,7 +1,7 @@
 -- What a record does: the next picture, the answer and the lent buffer, in one equation with the rules' outcome.
 use Prim.Native.Nat.{ℕ, suc, _+_, _≤_, min}
 use mathlib.Core.Path.{_≡_}
-use mathlib.Core.Bool.{Bool, true, false, _||_}
+use mathlib.Core.Bool.{true, false, _||_}
 use mathlib.Core.List.{List, [], _∷_, _++_, map}
 use mathlib.Core.Option.{Option, none, some}
 use lib.ListN.{length}
@@ -11,10 +11,10 @@ use Rattle.rules.specs.House.{maxNodes, maxUnits}
 use Rattle.rules.specs.Event.{Event, START, NCE, SHUTDOWN, ANSWER, NONE, DELAY}
 use Rattle.rules.specs.Order.{Order, NOTOK, encodeAll}
 use Rattle.rules.specs.Renumber.{Renumbering}
-use Rattle.rules.specs.Step.{Response, refuse, change, respond, asks, scanned, scan, changeRows, emptied, onCounted, conflict}
+use Rattle.rules.specs.Step.{Verdict, Response, refuse, change, respond, asks, scanned, scan, changeRows, emptied, onCounted, conflict}
 use Rattle.rules.specs.Ending.{settled, okOrder, waits, waitOrder}
 use Rattle.rules.specs.Run.{Outcome, refused, concluded, left, lent, numberOf, written, Record, after}
-use Rattle.ring_entries.specs.Tests.{countsFor, struck}
+use Rattle.ring_entries.specs.Verdicts.{countsFor, struck}
 use Rattle.ring_answer.specs.Hearing.{replyChange}
 use Rattle.registry.specs.declared.image.RegistryImage.{RegistryImage}
 use Rattle.registry.specs.declared.record.Recorded.{Recorded}
@@ -45,6 +45,10 @@ pub record Reached (p : Picture) : Type 0 where
   pub size : ℕ
   pub records : List Record
   pub made : p ≡ after (fresh size) records
+
+-- what a caller keeps: a picture as the box handed it out
+pub record HandedOut (i : RegistryImage) : Type 0 where
+  pub reached : Reached (viewOf i)
 
 -- the ending of an event whose steps left picture q
 unfoldable pub ended : Picture → Picture
@@ -85,19 +89,19 @@ pub record Scans (p : Picture) (before : List ℕ) (at : ℕ) (r : Recorded) (af
   pub length : r .length ≡ at + length (encodeAll (suc (p .pass)) (scanOrders p))
 
 -- The outcomes of an ANSWER or a NONE for position x: the row of x becomes r, and n is sent to address a; or the address is bad, and
--- counted for x, and for those that keep it too where it is shared.
+-- counted by the verdict on it.
 abbrev pub replyOutcome : Picture → (x a : ℕ) → Row → Renumbering → Outcome
 replyOutcome p x a r n = concluded p (change (replyChange (seatAt (p .rows) x) x a r n p))
 
-abbrev pub conflictOutcome : Bool → Picture → (x a : ℕ) → Outcome
-conflictOutcome shared p x a = concluded p (conflict (countsFor shared a) a (seatAt (p .rows) x) p)
+abbrev pub conflictOutcome : Verdict → Picture → (x a : ℕ) → Outcome
+conflictOutcome v p x a = concluded p (conflict (countsFor v a) a (seatAt (p .rows) x) p)
 
-abbrev pub ignoreOutcome : Bool → Picture → (x a : ℕ) → Outcome
-ignoreOutcome shared p x a = concluded p (change (changeRows (onCounted (countsFor shared a) (struck true a) (seatAt (p .rows) x)) p))
+abbrev pub ignoreOutcome : Verdict → Picture → (x a : ℕ) → Outcome
+ignoreOutcome v p x a = concluded p (change (changeRows (onCounted (countsFor v a) (struck true a) (seatAt (p .rows) x)) p))
 
-abbrev pub restartOutcome : Bool → Picture → (x a : ℕ) → Outcome
-restartOutcome shared p x a =
-    concluded p (change (scan (NOTOK ∷ []) (map emptied (onCounted (countsFor shared a) (struck false a) (seatAt (p .rows) x))) p))
+abbrev pub restartOutcome : Verdict → Picture → (x a : ℕ) → Outcome
+restartOutcome v p x a =
+    concluded p (change (scan (NOTOK ∷ []) (map emptied (onCounted (countsFor v a) (struck false a) (seatAt (p .rows) x))) p))
 
 -- position x has a row
 pub record Seat (i : RegistryImage) (x : ℕ) : Type 0 where

@@ -6,6 +6,7 @@ ghost use Rattle.registry.specs.View.{viewOf};
 ghost use Rattle.registry.specs.Outcome.{endOrders, Ends};
 use super::image::RegistryImage;
 use super::record::Recorded;
+use numbers::DONE;
 use ring_entries::outlook;
 
 impl RegistryImage {
@@ -33,7 +34,7 @@ impl RegistryImage {
         let next = closed.delay;
         self.delay = next;
         Recorded {
-            number: 0,
+            number: DONE,
             length: closed.end,
             picture: self,
         }

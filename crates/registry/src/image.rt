@@ -4,7 +4,8 @@ ghost use mathlib.Core.Bool.{false};
 ghost use mathlib.Core.List.{[]};
 ghost use Rattle.rules.specs.Picture.{Picture, Off, fresh};
 ghost use Rattle.registry.specs.View.{viewOf, AllNew, makeNumberOf, makeAnswer};
-ghost use Rattle.registry.specs.Outcome.{Reached};
+ghost use Rattle.registry.specs.Outcome.{HandedOut};
+use numbers::DONE;
 use numbers::ILLEGAL_SIZE;
 use ring_state::CfgDelay;
 use ring_state::OFF;
@@ -46,7 +47,7 @@ impl MakeAnswer {
     {
         match self {
             MakeAnswer::Refused(number) => number,
-            MakeAnswer::Made => 0,
+            MakeAnswer::Made => DONE,
         }
     }
 }
@@ -75,7 +76,7 @@ impl RegistryImage {
 
     // A fresh picture for L; 10 where L is outside 12 to 45, and then one for 12.
     pub fn fresh(l: usize) -> MadeImage
-        ensures { λ r. ⌜ (r .answer ≡ makeAnswer l) × (viewOf (r .picture) ≡ fresh l) × Reached (viewOf (r .picture)) ⌝ }
+        ensures { λ r. ⌜ (r .answer ≡ makeAnswer l) × (viewOf (r .picture) ≡ fresh l) × HandedOut (r .picture) ⌝ }
     {
         if l < MIN_SIZE {
             return MadeImage {

@@ -3,8 +3,9 @@ ghost use mathlib.Core.Path.{_≡_};
 ghost use lib.ListN.{length};
 ghost use Rattle.rules.specs.Run.{step};
 ghost use Rattle.registry.specs.View.{viewOf};
-ghost use Rattle.registry.specs.Outcome.{Does, Reached};
+ghost use Rattle.registry.specs.Outcome.{Does, HandedOut};
 use super::image::RegistryImage;
+use numbers::DONE;
 use numbers::ORDER_ROOM_TOO_SHORT;
 use numbers::RECORD_MALFORMED;
 use ring_answer::hear;
@@ -36,8 +37,9 @@ impl RegistryImage {
 
     // Takes one record, and writes its orders from the start of `out`; or 1 to 9, which change nothing.
     pub fn record(self, bytes: &[u8], out: &mut [u8]) -> Recorded
-        requires { ⌜ Reached (viewOf self) ⌝ }
-        ensures { λ r. ⌜ Does self (step (viewOf self) (now (bytes .entry)) (length (now (out .entry)))) (now (out .entry)) r (now (out .exit)) × Reached (viewOf (r .picture)) ⌝ }
+        requires { ⌜ HandedOut self ⌝ }
+        ensures { λ r. ⌜ Does self (step (viewOf self) (now (bytes .entry)) (length (now (out .entry)))) (now (out .entry)) r (now (out .exit))
+            × HandedOut (r .picture) ⌝ }
     {
         if out.len() < MIN_ROOM {
             return self.refuse(ORDER_ROOM_TOO_SHORT);
@@ -46,13 +48,13 @@ impl RegistryImage {
         let event = read.event;
         let state = self.state;
         let number = ring_refusals::refusal(state, event);
-        if number != 0 {
+        if number != DONE {
             return self.refuse(number);
         }
         let seat = ring_refusals::seat_of(event);
         let entry = self.entries[seat];
         let late = ring_refusals::reply_refusal(state, self.pass, self.units, entry, event);
-        if late != 0 {
+        if late != DONE {
             return self.refuse(late);
         }
         match event {
@@ -67,9 +69,10 @@ impl RegistryImage {
             } => {
                 let entries = self.entries;
                 let pairs = read.pairs;
-                let heard = hear::hear(self.units as usize, entries, seat, entry, address, pairs);
-                if heard.conflict {
-                    return self.conflict(out, position, address, heard.shared, heard.limit);
+                let heard = hear::hear(self.units as usize, entries, seat, address, pairs);
+                let verdict = heard.verdict;
+                if verdict.conflicts() {
+                    return self.conflict(out, position, address, verdict);
                 }
                 let next = heard.next;
                 let step = heard.step;

@@ -11,10 +11,12 @@ ghost use Rattle.registry.specs.Outcome.{scanOrders, Scans, Does};
 use super::image;
 use super::image::RegistryImage;
 use super::record::Recorded;
+use numbers::DONE;
 use numbers::NO_PASS_LEFT;
 use numbers::NOT_ASKED;
 use numbers::WRONG_PASS;
 use ring_entries::changes;
+use ring_entries::changes::Change;
 use ring_state::CfgDelay;
 use ring_state::NOTOK;
 use ring_state::RegistryState;
@@ -45,7 +47,8 @@ impl RegistryImage {
 
     // START: the ring has `nodes` nodes, and its units are asked.
     pub(crate) fn start(mut self, out: &mut [u8], nodes: u8) -> Recorded
-        requires { ⌜ (1 ≤ nodes) × (nodes ≤ maxNodes) × (length (written (concluded (viewOf self) (respond (viewOf self) (START nodes)))) ≤ length (now out)) ⌝ }
+        requires { ⌜ (1 ≤ nodes) × (nodes ≤ maxNodes)
+            × (length (written (concluded (viewOf self) (respond (viewOf self) (START nodes)))) ≤ length (now out)) ⌝ }
         ensures { λ r. ⌜ Does self (concluded (viewOf self) (respond (viewOf self) (START nodes))) (now (out .entry)) r (now (out .exit)) ⌝ }
     {
         if MAX_PASS <= self.pass {
@@ -77,7 +80,7 @@ impl RegistryImage {
         ensures { λ r. ⌜ Does self (concluded (viewOf self) (respond (viewOf self) SHUTDOWN)) (now (out .entry)) r (now (out .exit)) ⌝ }
     {
         Recorded {
-            number: 0,
+            number: DONE,
             length: 0,
             picture: RegistryImage::stopped(self.pass, self.size),
         }
@@ -98,7 +101,7 @@ impl RegistryImage {
         let units = self.units as usize;
         let before = self.entries;
         let end = ring_tell::asks::write_asks(out, 0, pass, Which::Silent, units, before);
-        let entries = changes::all_asked(units, before);
+        let entries = changes::all_changed(units, before, Change::Asked);
         self.entries = entries;
         let delay = CfgDelay(STOPPED);
         self.delay = delay;

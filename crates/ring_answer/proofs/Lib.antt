@@ -1,4 +1,3 @@
 -- Laws that several functions' proofs use.
 pub mod Walking
-pub mod Seats
 pub mod Hearing

@@ -1,43 +1,50 @@
 -- What an announcement comes to, in the rules' words.
 use Prim.Native.Nat.{ℕ}
 use mathlib.Core.Path.{_≡_}
-use mathlib.Core.Bool.{Bool, true, false, _&&_}
-use mathlib.Core.List.{List, [], map}
-use lib.ListN.{replicate}
-use Rattle.laws.specs.Lists.{any}
-use Rattle.rules.specs.House.{maxPairs}
-use Rattle.rules.specs.Picture.{Pair, Row, Picture, withRows, holds, Seat, others, put}
-use Rattle.rules.specs.Renumber.{Renumbering}
-use Rattle.rules.specs.Step.{Change, Response, change, setOrder, counted, atLimit, conflict, verdict, answer, renumberingFor, listedRow}
+use mathlib.Core.List.{List, []}
+use Rattle.laws.specs.Lists.{collect}
+use Rattle.rules.specs.Picture.{Pair, Row, Picture, withRows, pairsIn, Seat, others, put}
+use Rattle.rules.specs.Renumber.{Judged, Renumbering, finished, freeNumber, renumber, placeOf, triesOf}
+use Rattle.rules.specs.Step.{Change, Response, setOrder, Verdict, barred, outside, duplicate, changed, fine, verdict, ignored, answer, renumberingFor, listedRow}
 use Rattle.row_entry.specs.View.{rowOf}
-use Rattle.ring_entries.specs.Tests.{countsFor}
-use Rattle.row_judge.specs.Marks.{orEach}
 use Rattle.row_renumber.specs.Marks.{renumberingOf}
+use Rattle.ring_entries.specs.Verdicts.{verdictOf}
 use Rattle.ring_answer.specs.declared.hear.Heard.{Heard}
-
--- a mark for each announced pair that is one of these
-abbrev pub heldBy : (elsewhere announced : List Pair) → List Bool
-heldBy el ps = orEach (replicate maxPairs false) (map (holds el) ps)
 
 -- the row in the seat becomes r, and n is sent to position x at address a
 abbrev pub replyChange : Seat → (x a : ℕ) → Row → Renumbering → Picture → Change
 replyChange s x a r n p = record { picture = withRows (put s r) p; first = []; set = setOrder x a n }
 
--- another row that is counted stands at the limit
-abbrev pub othersAtLimit : Bool → Seat → ℕ → Bool
-othersAtLimit shared s a = any (λ (r : Row). countsFor shared a r && atLimit (counted r)) (others s)
+-- the rules' renumbering, from judged pairs
+abbrev pub renumberingBy : Seat → List Pair → List Judged → Renumbering
+renumberingBy s ps js = renumber (freeNumber (collect pairsIn (others s)) ps) (placeOf (s .row .status)) (triesOf (s .row .status)) js
+
+-- the verdict on address a where the row in the seat announces it
+abbrev pub verdictFor : Seat → ℕ → Verdict
+verdictFor s a = verdict (others s) (s .row) a
 
 -- the step of an ANSWER that is not refused
 abbrev pub answered : Seat → (x a : ℕ) → List Pair → Picture → Response
-answered s x a ps p = answer (verdict (others s) (s .row) a) x a ps s p
+answered s x a ps p = answer (verdictFor s a) x a ps s p
 
--- the address is kept
-pub record Keeps (s : Seat) (a : ℕ) (ps : List Pair) (h : Heard) : Type 0 where
-  pub row : rowOf (h .next) ≡ listedRow s a ps
-  pub set : renumberingOf (h .step) ≡ renumberingFor s ps
+-- the announcing row afterwards, by the verdict; a conflict is counted elsewhere, and leaves it as it is
+unfoldable pub rowAfter : Verdict → Seat → (address : ℕ) → List Pair → Row
+rowAfter barred s a ps = ignored a (s .row)
+rowAfter outside s a ps = s .row
+rowAfter duplicate s a ps = s .row
+rowAfter changed s a ps = s .row
+rowAfter fine s a ps = listedRow s a ps
 
--- the announcement of address a and pairs ps by the row in the seat: at any position and in any picture it is this conflict, or this reply
+-- what is renumbered, by the verdict
+unfoldable pub stepAfter : Verdict → Seat → List Pair → Renumbering
+stepAfter barred s ps = finished
+stepAfter outside s ps = finished
+stepAfter duplicate s ps = finished
+stepAfter changed s ps = finished
+stepAfter fine s ps = renumberingFor s ps
+
+-- the announcement of address a and pairs ps by the row in the seat
 pub record Hears (s : Seat) (a : ℕ) (ps : List Pair) (h : Heard) : Type 0 where
-  pub conflicts : h .conflict ≡ true → (x : ℕ) (p : Picture) → answered s x a ps p ≡ conflict (countsFor (h .shared) a) a s p
-  pub limits : h .conflict ≡ true → h .limit ≡ othersAtLimit (h .shared) s a
-  pub replies : h .conflict ≡ false → (x : ℕ) (p : Picture) → answered s x a ps p ≡ change (replyChange s x a (rowOf (h .next)) (renumberingOf (h .step)) p)
+  pub verdict : verdictOf (h .verdict) ≡ verdictFor s a
+  pub row : rowOf (h .next) ≡ rowAfter (verdictFor s a) s a ps
+  pub step : renumberingOf (h .step) ≡ stepAfter (verdictFor s a) s ps

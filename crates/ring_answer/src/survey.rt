@@ -1,17 +1,11 @@
 // One walk over the ring beside a node: who claims its address, and which of its pairs are held.
 ghost use mathlib.Core.Path.{_≡_};
 ghost use mathlib.Core.Bool.{cond, false};
-ghost use mathlib.Core.List.{map};
 ghost use lib.Dec.{eqb};
-ghost use lib.ListN.{replicate};
-ghost use Rattle.laws.specs.Lists.{any, collect};
-ghost use Rattle.rules.specs.House.{maxPairs};
-ghost use Rattle.rules.specs.Picture.{noRow, bars, keeps, holds, pairsIn};
+ghost use Rattle.rules.specs.Picture.{noRow};
 ghost use Rattle.wire_pairs.specs.View.{pairsOf};
 ghost use Rattle.row_entry.specs.View.{rowOf, rowsOf};
-ghost use Rattle.ring_entries.specs.Tests.{keepsAtLimit};
-ghost use Rattle.row_judge.specs.Marks.{orEach};
-ghost use Rattle.ring_answer.specs.Beside.{beside};
+ghost use Rattle.ring_answer.specs.Beside.{beside, Surveys};
 use ring_entries::claims::Claims;
 use row_entry::NodeEntry;
 use row_judge::held;
@@ -44,13 +38,12 @@ pub fn survey_of(
     address: LogicalNodeAddress,
     announced: Pairs,
 ) -> Survey
-    ensures { λ r. ⌜ (r .claims .barred ≡ any (bars (address .0)) (beside seat (rowsOf count entries))) × (r .claims .kept ≡ any (keeps (address .0)) (beside seat (rowsOf count entries))) × (r .claims .limit ≡ any (keepsAtLimit (address .0)) (beside seat (rowsOf count entries))) × (r .held ≡ orEach (replicate maxPairs false) (map (holds (collect pairsIn (beside seat (rowsOf count entries)))) (pairsOf announced))) ⌝ }
+    ensures { λ r. ⌜ Surveys (beside seat (rowsOf count entries)) (address .0) (pairsOf announced) r ⌝ }
 {
     let n = row_entry::clamp(count);
     let mut claims = Claims {
         barred: false,
         kept: false,
-        limit: false,
     };
     let mut marks = [false; MAX_PAIRS];
     let mut i = 0;

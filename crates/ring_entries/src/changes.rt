@@ -1,45 +1,32 @@
 // What becomes of every entry: asked, emptied, or counted as bad.
 ghost use mathlib.Core.Path.{_≡_};
 ghost use mathlib.Core.List.{map};
-ghost use Rattle.rules.specs.Step.{asked, emptied};
+ghost use Prim.Native.Nat.{suc, _<_, min};
+ghost use Rattle.rules.specs.House.{maxUnits};
+ghost use Rattle.rules.specs.Picture.{seatAt};
+ghost use Rattle.rules.specs.Step.{onCounted};
 ghost use Rattle.row_entry.specs.View.{rowOf, rowsOf};
-ghost use Rattle.ring_entries.specs.Tests.{struck, struckIf};
+ghost use Rattle.ring_entries.specs.Verdicts.{verdictOf, countsFor, struck};
+ghost use Rattle.ring_entries.specs.Changes.{changeOf};
+use super::verdict::Verdict;
 use row_entry::NodeEntry;
 use sizes::MAX_UNITS;
 use wire_address::LogicalNodeAddress;
 
-// DELAY: every SILENT entry is asked.
-pub fn all_asked(count: usize, entries: [NodeEntry; MAX_UNITS]) -> [NodeEntry; MAX_UNITS]
-    ensures { λ r. ⌜ rowsOf count r ≡ map asked (rowsOf count entries) ⌝ }
-{
-    let n = row_entry::clamp(count);
-    let mut next = entries;
-    let mut i = 0;
-    while i < n {
-        let entry = next[i];
-        next[i] = entry.asked();
-        i += 1;
-    }
-    next
-}
-
-// A restart: every entry that is not IGNORED is emptied and asked.
-pub fn all_emptied(count: usize, entries: [NodeEntry; MAX_UNITS]) -> [NodeEntry; MAX_UNITS]
-    ensures { λ r. ⌜ rowsOf count r ≡ map emptied (rowsOf count entries) ⌝ }
-{
-    let n = row_entry::clamp(count);
-    let mut next = entries;
-    let mut i = 0;
-    while i < n {
-        let entry = next[i];
-        next[i] = entry.emptied();
-        i += 1;
-    }
-    next
+// DELAY asks a SILENT entry; a restart empties and asks one that is not IGNORED; a bad announcement is counted for those that it counts
+// for beside its own node, and at the limit they are IGNORED for the announced address.
+pub enum Change {
+    Asked,
+    Emptied,
+    Struck {
+        verdict: Verdict,
+        limit: bool,
+        address: LogicalNodeAddress,
+    },
 }
 
 // A bad announcement is counted for the entry; at the limit it is IGNORED for the announced address.
-pub fn strike(entry: NodeEntry, limit: bool, address: LogicalNodeAddress) -> NodeEntry
+fn strike(entry: NodeEntry, limit: bool, address: LogicalNodeAddress) -> NodeEntry
     ensures { λ r. ⌜ rowOf r ≡ struck limit (address .0) (rowOf entry) ⌝ }
 {
     let counted = entry.counted();
@@ -49,36 +36,68 @@ pub fn strike(entry: NodeEntry, limit: bool, address: LogicalNodeAddress) -> Nod
     counted
 }
 
-// The same for an entry that keeps the address, where `shared` says that those are counted.
-fn strike_if(entry: NodeEntry, shared: bool, limit: bool, address: LogicalNodeAddress) -> NodeEntry
-    ensures { λ r. ⌜ rowOf r ≡ struckIf shared limit (address .0) (rowOf entry) ⌝ }
+// What becomes of one entry.
+fn changed(entry: NodeEntry, change: Change) -> NodeEntry
+    ensures { λ r. ⌜ rowOf r ≡ changeOf change (rowOf entry) ⌝ }
 {
-    if shared {
-        if entry.keeps(address) {
-            return strike(entry, limit, address);
+    match change {
+        Change::Asked => entry.asked(),
+        Change::Emptied => entry.emptied(),
+        Change::Struck {
+            verdict,
+            limit,
+            address,
+        } => {
+            if verdict.counts_for(entry, address) {
+                return strike(entry, limit, address);
+            }
+            entry
         }
-        return entry;
     }
-    entry
 }
 
-// Every entry that keeps the address is struck, where `shared` says so.
-pub fn all_struck(
+// What becomes of the first `count` entries.
+pub fn all_changed(
     count: usize,
     entries: [NodeEntry; MAX_UNITS],
-    shared: bool,
-    limit: bool,
-    address: LogicalNodeAddress,
+    change: Change,
 ) -> [NodeEntry; MAX_UNITS]
-    ensures { λ r. ⌜ rowsOf count r ≡ map (struckIf shared limit (address .0)) (rowsOf count entries) ⌝ }
+    ensures { λ r. ⌜ rowsOf count r ≡ map (changeOf change) (rowsOf count entries) ⌝ }
 {
     let n = row_entry::clamp(count);
     let mut next = entries;
     let mut i = 0;
     while i < n {
         let entry = next[i];
-        next[i] = strike_if(entry, shared, limit, address);
+        next[i] = changed(entry, change);
         i += 1;
     }
+    next
+}
+
+// A bad announcement of the node in the seat is counted for it and for those that it counts for beside it; at the limit all these are
+// IGNORED for the announced address.
+pub fn all_counted(
+    count: usize,
+    entries: [NodeEntry; MAX_UNITS],
+    seat: usize,
+    verdict: Verdict,
+    limit: bool,
+    address: LogicalNodeAddress,
+) -> [NodeEntry; MAX_UNITS]
+    requires { ⌜ seat < min count maxUnits ⌝ }
+    ensures { λ r. ⌜ rowsOf count r ≡ onCounted (countsFor (verdictOf verdict) (address .0)) (struck limit (address .0))
+        (seatAt (rowsOf count entries) (suc seat)) ⌝ }
+{
+    let mut next = all_changed(
+        count,
+        entries,
+        Change::Struck {
+            verdict,
+            limit,
+            address,
+        },
+    );
+    next[seat] = strike(entries[seat], limit, address);
     next
 }

@@ -34,7 +34,8 @@ fn is_short(entry: NodeEntry) -> bool
 impl Outlook {
     // The outlook with one entry more.
     fn with(self, entry: NodeEntry) -> Outlook
-        ensures { λ r. ⌜ (r .open ≡ self .open || isOpen (rowOf entry)) × (r .silent ≡ self .silent || isSilent (rowOf entry)) × (r .short ≡ self .short || isShort (rowOf entry)) ⌝ }
+        ensures { λ r. ⌜ (r .open ≡ self .open || isOpen (rowOf entry)) × (r .silent ≡ self .silent || isSilent (rowOf entry))
+            × (r .short ≡ self .short || isShort (rowOf entry)) ⌝ }
     {
         Outlook {
             open: either(self.open, entry.is_open()),
@@ -46,7 +47,8 @@ impl Outlook {
 
 // The outlook of the first `count` entries.
 pub fn outlook_of(count: usize, entries: [NodeEntry; MAX_UNITS]) -> Outlook
-    ensures { λ r. ⌜ (r .open ≡ any isOpen (rowsOf count entries)) × (r .silent ≡ any isSilent (rowsOf count entries)) × (r .short ≡ any isShort (rowsOf count entries)) ⌝ }
+    ensures { λ r. ⌜ (r .open ≡ any isOpen (rowsOf count entries)) × (r .silent ≡ any isSilent (rowsOf count entries))
+        × (r .short ≡ any isShort (rowsOf count entries)) ⌝ }
 {
     let n = row_entry::clamp(count);
     let mut seen = Outlook {

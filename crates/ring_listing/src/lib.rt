@@ -35,8 +35,13 @@ fn list_entry(
     position: NodePosition,
     entry: NodeEntry,
 ) -> usize
-    requires { ⌜ (at + maxPairs ≤ maxEntries) × (length (now positions) ≡ maxEntries) × (length (now addresses) ≡ maxEntries) × (length (now blocks) ≡ maxEntries) × (length (now numbers) ≡ maxEntries) ⌝ }
-    ensures { λ r. ⌜ (r ≤ at + maxPairs) × Wrote (now (positions .entry)) at (map (λ (e : Entry). e .position) (entriesOf (position .0) (keptIn (rowOf entry)))) r (now (positions .exit)) × Wrote (now (addresses .entry)) at (map (λ (e : Entry). e .address) (entriesOf (position .0) (keptIn (rowOf entry)))) r (now (addresses .exit)) × Wrote (now (blocks .entry)) at (map (λ (e : Entry). e .pair .block) (entriesOf (position .0) (keptIn (rowOf entry)))) r (now (blocks .exit)) × Wrote (now (numbers .entry)) at (map (λ (e : Entry). e .pair .number) (entriesOf (position .0) (keptIn (rowOf entry)))) r (now (numbers .exit)) ⌝ }
+    requires { ⌜ (at + maxPairs ≤ maxEntries) × (length (now positions) ≡ maxEntries) × (length (now addresses) ≡ maxEntries)
+        × (length (now blocks) ≡ maxEntries) × (length (now numbers) ≡ maxEntries) ⌝ }
+    ensures { λ r. ⌜ (r ≤ at + maxPairs)
+        × Wrote (now (positions .entry)) at (map (λ (e : Entry). e .position) (entriesOf (position .0) (keptIn (rowOf entry)))) r (now (positions .exit))
+        × Wrote (now (addresses .entry)) at (map (λ (e : Entry). e .address) (entriesOf (position .0) (keptIn (rowOf entry)))) r (now (addresses .exit))
+        × Wrote (now (blocks .entry)) at (map (λ (e : Entry). e .pair .block) (entriesOf (position .0) (keptIn (rowOf entry)))) r (now (blocks .exit))
+        × Wrote (now (numbers .entry)) at (map (λ (e : Entry). e .pair .number) (entriesOf (position .0) (keptIn (rowOf entry)))) r (now (numbers .exit)) ⌝ }
 {
     let pairs = entry.pairs();
     let n = pairs.len();

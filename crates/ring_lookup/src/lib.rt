@@ -4,6 +4,7 @@ ghost use Rattle.rules.specs.Listing.{firstOf, entriesFrom, lookupNumber, looku
 ghost use Rattle.wire_pairs.specs.View.{pairOf};
 ghost use Rattle.row_entry.specs.View.{rowsOf};
 ghost use Rattle.ring_lookup.specs.View.{lookupOf};
+use numbers::DONE;
 use numbers::NOT_LISTED;
 use row_entry::NodeEntry;
 use row_entry::clamp;
@@ -30,7 +31,7 @@ impl Lookup {
             Lookup::Found {
                 position: _,
                 address: _,
-            } => 0,
+            } => DONE,
         }
     }
 

@@ -33,12 +33,19 @@ seatRefusal n k r c x = cond (not (eqb c n)) 5 (cond (eqb x 0) 6 (cond (ltb (min
 unfoldable pub orElse : (first second : ℕ) → ℕ
 orElse n m = cond (eqb n 0) m n
 
+-- 8 of an ANSWER and of a NONE, or 0
+abbrev pub unaskedNumber : State → Row → ℕ
+unaskedNumber s r = cond (isNotOk s && not (isOpen r)) 8 0
+
+abbrev pub unexpectedNumber : Row → ℕ
+unexpectedNumber r = cond (not (isOpen r)) 8 0
+
 -- 5 to 8 of an ANSWER or a NONE, or 0
 unfoldable pub replyRefusal : State → (n k : ℕ) → Row → Option Event → ℕ
 replyRefusal s n k r none = 0
 replyRefusal s n k r (some (START m)) = 0
 replyRefusal s n k r (some (NCE m)) = 0
 replyRefusal s n k r (some SHUTDOWN) = 0
-replyRefusal s n k r (some (ANSWER c x a ps)) = orElse (seatRefusal n k r c x) (cond (isNotOk s && not (isOpen r)) 8 0)
-replyRefusal s n k r (some (NONE c x)) = orElse (seatRefusal n k r c x) (cond (not (isOpen r)) 8 0)
+replyRefusal s n k r (some (ANSWER c x a ps)) = orElse (seatRefusal n k r c x) (unaskedNumber s r)
+replyRefusal s n k r (some (NONE c x)) = orElse (seatRefusal n k r c x) (unexpectedNumber r)
 replyRefusal s n k r (some (DELAY c)) = 0

@@ -1,16 +1,17 @@
 // Which number an event is refused with, 2 to 8, from what the picture says of it.
 ghost use mathlib.Core.Path.{_≡_};
-ghost use mathlib.Core.Bool.{cond, not, _&&_};
 ghost use mathlib.Core.List.{[]};
 ghost use Prim.Native.Nat.{_<_};
 ghost use Rattle.rules.specs.House.{maxUnits};
-ghost use Rattle.rules.specs.Picture.{isNotOk, isOpen};
 ghost use Rattle.row_entry.specs.View.{rowOf};
 ghost use Rattle.wire_events.specs.View.{eventOf};
 ghost use Rattle.ring_state.specs.State.{stateOf, stateRow};
-ghost use Rattle.ring_refusals.specs.Numbers.{refusalOf, placeIn, seatIn, seatRefusal, orElse, replyRefusal};
+ghost use Rattle.ring_refusals.specs.Numbers.{unaskedNumber, unexpectedNumber, refusalOf, placeIn, seatIn, seatRefusal, orElse, replyRefusal};
+use numbers::ALREADY_RUNNING;
+use numbers::DONE;
 use numbers::NO_SUCH_POSITION;
 use numbers::NOT_ASKED;
+use numbers::NOT_RUNNING;
 use numbers::POSITION_IGNORED;
 use numbers::RECORD_MALFORMED;
 use numbers::WRONG_PASS;
@@ -22,9 +23,20 @@ use sizes::MAX_UNITS;
 use wire_address::NodePosition;
 use wire_events::Event;
 
+// What the table says: taken, the ring does not run, it runs already.
+const TAKEN: u8 = DONE;
+
+const IDLE: u8 = NOT_RUNNING;
+
+const RUNS: u8 = ALREADY_RUNNING;
+
 // The refusals by state and kind: a row for each of OFF, NOTOK and OK, a number for each of START, NCE, SHUTDOWN, ANSWER, NONE and
-// DELAY, and 0 where the kind is taken.
-const REFUSALS: [[u8; 6]; 3] = [[0, 3, 3, 3, 3, 3], [4, 0, 0, 0, 0, 0], [4, 0, 0, 0, 0, 0]];
+// DELAY.
+const REFUSALS: [[u8; 6]; 3] = [
+    [TAKEN, IDLE, IDLE, IDLE, IDLE, IDLE],
+    [RUNS, TAKEN, TAKEN, TAKEN, TAKEN, TAKEN],
+    [RUNS, TAKEN, TAKEN, TAKEN, TAKEN, TAKEN],
+];
 
 // The table's row for a state.
 fn row_of(state: RegistryState) -> usize
@@ -112,28 +124,28 @@ fn seat_refusal(current: u32, units: u8, entry: NodeEntry, pass: u32, position: 
     if entry.is_ignored() {
         return POSITION_IGNORED;
     }
-    0
+    DONE
 }
 
 // 8 for an ANSWER in NOTOK whose question is not open, or 0.
 fn unasked(state: RegistryState, entry: NodeEntry) -> u8
-    ensures { λ r. ⌜ r ≡ cond (isNotOk (stateOf (state .0)) && not (isOpen (rowOf entry))) 8 0 ⌝ }
+    ensures { λ r. ⌜ r ≡ unaskedNumber (stateOf (state .0)) (rowOf entry) ⌝ }
 {
     if state.0 == NOTOK {
         if entry.is_open() {
-            return 0;
+            return DONE;
         }
         return NOT_ASKED;
     }
-    0
+    DONE
 }
 
 // 8 for a NONE whose question is not open, or 0.
 fn unexpected(entry: NodeEntry) -> u8
-    ensures { λ r. ⌜ r ≡ cond (not (isOpen (rowOf entry))) 8 0 ⌝ }
+    ensures { λ r. ⌜ r ≡ unexpectedNumber (rowOf entry) ⌝ }
 {
     if entry.is_open() {
-        return 0;
+        return DONE;
     }
     NOT_ASKED
 }
@@ -142,7 +154,7 @@ fn unexpected(entry: NodeEntry) -> u8
 fn or_else(first: u8, second: u8) -> u8
     ensures { λ r. ⌜ r ≡ orElse first second ⌝ }
 {
-    if first == 0 {
+    if first == DONE {
         return second;
     }
     first
@@ -159,10 +171,10 @@ pub fn reply_refusal(
     ensures { λ r. ⌜ r ≡ replyRefusal (stateOf (state .0)) current units (rowOf entry) (eventOf event []) ⌝ }
 {
     match event {
-        Event::Malformed => 0,
-        Event::Start(_) => 0,
-        Event::NetworkChange(_) => 0,
-        Event::Shutdown => 0,
+        Event::Malformed => DONE,
+        Event::Start(_) => DONE,
+        Event::NetworkChange(_) => DONE,
+        Event::Shutdown => DONE,
         Event::Answer {
             pass,
             position,
@@ -175,6 +187,6 @@ pub fn reply_refusal(
             seat_refusal(current, units, entry, pass, position),
             unexpected(entry),
         ),
-        Event::DelayExpired { pass: _ } => 0,
+        Event::DelayExpired { pass: _ } => DONE,
     }
 }

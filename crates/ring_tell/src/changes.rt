@@ -29,7 +29,7 @@ fn changes(delta: Delta, before: NodeEntry, after: NodeEntry) -> Pairs
 }
 
 // INVALID or NEW for one entry.
-fn write_change(
+pub(crate) fn write_change(
     out: &mut [u8],
     at: usize,
     pass: u32,
@@ -39,7 +39,8 @@ fn write_change(
     after: NodeEntry,
 ) -> usize
     requires { ⌜ (3 ≤ size) × (at + length (encodeAll pass (tell (deltaOf delta) size (changesOf delta (rowOf before) (rowOf after)))) ≤ length (now out)) ⌝ }
-    ensures { λ r. ⌜ Wrote (now (out .entry)) at (encodeAll pass (tell (deltaOf delta) size (changesOf delta (rowOf before) (rowOf after)))) r (now (out .exit)) ⌝ }
+    ensures { λ r. ⌜ Wrote (now (out .entry)) at (encodeAll pass (tell (deltaOf delta) size (changesOf delta (rowOf before) (rowOf after))))
+        r (now (out .exit)) ⌝ }
 {
     let pairs = changes(delta, before, after);
     write_delta(out, at, pass, delta, size, pairs)
@@ -56,8 +57,10 @@ pub fn write_changes(
     before: [NodeEntry; MAX_UNITS],
     after: [NodeEntry; MAX_UNITS],
 ) -> usize
-    requires { ⌜ (3 ≤ size) × (at + length (encodeAll pass (tellRows (deltaOf delta) (changesOf delta) size (rowsOf count before) (rowsOf count after))) ≤ length (now out)) ⌝ }
-    ensures { λ r. ⌜ Wrote (now (out .entry)) at (encodeAll pass (tellRows (deltaOf delta) (changesOf delta) size (rowsOf count before) (rowsOf count after))) r (now (out .exit)) ⌝ }
+    requires { ⌜ (3 ≤ size)
+        × (at + length (encodeAll pass (tellRows (deltaOf delta) (changesOf delta) size (rowsOf count before) (rowsOf count after))) ≤ length (now out)) ⌝ }
+    ensures { λ r. ⌜ Wrote (now (out .entry)) at (encodeAll pass (tellRows (deltaOf delta) (changesOf delta) size (rowsOf count before) (rowsOf count after)))
+        r (now (out .exit)) ⌝ }
 {
     let n = clamp(count);
     let mut end = at;

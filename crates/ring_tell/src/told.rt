@@ -1,5 +1,4 @@
 // What is told of entries that have changed, and the SET of a renumbering.
-ghost use mathlib.Core.List.{_++_};
 ghost use Prim.Native.Nat.{_+_, _≤_};
 ghost use lib.ListN.{length};
 ghost use Rattle.laws.specs.Buffers.{Wrote};
@@ -8,7 +7,8 @@ ghost use Rattle.rules.specs.Step.{setOrder};
 ghost use Rattle.row_entry.specs.View.{rowOf, rowsOf};
 ghost use Rattle.row_renumber.specs.Marks.{renumberingOf};
 ghost use Rattle.ring_state.specs.State.{stateOf};
-ghost use Rattle.ring_tell.specs.Told.{rowTold, rowsTold};
+ghost use Rattle.ring_tell.specs.Told.{rowTold, rowsTold, replyTold};
+use super::changes;
 use ring_state::RegistryState;
 use row_entry::NodeEntry;
 use row_renumber::renumber::Renumbering;
@@ -30,10 +30,8 @@ fn tell_entry(
     ensures { λ r. ⌜ Wrote (now (out .entry)) 0 (encodeAll pass (rowTold (stateOf (state .0)) size (rowOf before) (rowOf after))) r (now (out .exit)) ⌝ }
 {
     if ring_state::is_ok(state) {
-        let old = before.pairs();
-        let new = after.pairs();
-        let at = wire_orders::write_delta(out, 0, pass, Delta::Invalid, size, old.missing(new));
-        return wire_orders::write_delta(out, at, pass, Delta::New, size, new.missing(old));
+        let at = changes::write_change(out, 0, pass, Delta::Invalid, size, before, after);
+        return changes::write_change(out, at, pass, Delta::New, size, before, after);
     }
     0
 }
@@ -49,20 +47,12 @@ pub fn tell_entries(
     after: [NodeEntry; MAX_UNITS],
 ) -> usize
     requires { ⌜ (3 ≤ size) × (length (encodeAll pass (rowsTold (stateOf (state .0)) size (rowsOf count before) (rowsOf count after))) ≤ length (now out)) ⌝ }
-    ensures { λ r. ⌜ Wrote (now (out .entry)) 0 (encodeAll pass (rowsTold (stateOf (state .0)) size (rowsOf count before) (rowsOf count after))) r (now (out .exit)) ⌝ }
+    ensures { λ r. ⌜ Wrote (now (out .entry)) 0 (encodeAll pass (rowsTold (stateOf (state .0)) size (rowsOf count before) (rowsOf count after)))
+        r (now (out .exit)) ⌝ }
 {
     if ring_state::is_ok(state) {
-        let at = super::changes::write_changes(
-            out,
-            0,
-            pass,
-            Delta::Invalid,
-            size,
-            count,
-            before,
-            after,
-        );
-        return super::changes::write_changes(out, at, pass, Delta::New, size, count, before, after);
+        let at = changes::write_changes(out, 0, pass, Delta::Invalid, size, count, before, after);
+        return changes::write_changes(out, at, pass, Delta::New, size, count, before, after);
     }
     0
 }
@@ -103,8 +93,10 @@ pub fn tell_reply(
     address: LogicalNodeAddress,
     step: Renumbering,
 ) -> usize
-    requires { ⌜ (3 ≤ size) × (length (encodeAll pass (rowTold (stateOf (state .0)) size (rowOf before) (rowOf after) ++ setOrder (position .0) (address .0) (renumberingOf step))) ≤ length (now out)) ⌝ }
-    ensures { λ r. ⌜ Wrote (now (out .entry)) 0 (encodeAll pass (rowTold (stateOf (state .0)) size (rowOf before) (rowOf after) ++ setOrder (position .0) (address .0) (renumberingOf step))) r (now (out .exit)) ⌝ }
+    requires { ⌜ (3 ≤ size)
+        × (length (encodeAll pass (replyTold (stateOf (state .0)) size (rowOf before) (rowOf after) (position .0) (address .0) (renumberingOf step))) ≤ length (now out)) ⌝ }
+    ensures { λ r. ⌜ Wrote (now (out .entry)) 0 (encodeAll pass (replyTold (stateOf (state .0)) size (rowOf before) (rowOf after) (position .0) (address .0) (renumberingOf step)))
+        r (now (out .exit)) ⌝ }
 {
     let told = tell_entry(out, pass, state, size, before, after);
     write_renumbering(out, told, pass, position, address, step)

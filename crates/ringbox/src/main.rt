@@ -5,8 +5,7 @@ mod help;
 mod order_lines;
 mod show;
 
-ghost use Rattle.registry.specs.View.{viewOf};
-ghost use Rattle.registry.specs.Outcome.{Reached};
+ghost use Rattle.registry.specs.Outcome.{HandedOut};
 use command::Command;
 use command::MAX_RECORD;
 use command::MAX_ROOM;
@@ -34,8 +33,8 @@ struct Bench {
 
 // The bench with this output.
 fn with_output(bench: Bench, output: Output) -> Bench
-    requires { ⌜ Reached (viewOf (bench .picture)) ⌝ }
-    ensures { λ r. ⌜ Reached (viewOf (r .picture)) ⌝ }
+    requires { ⌜ HandedOut (bench .picture) ⌝ }
+    ensures { λ r. ⌜ HandedOut (r .picture) ⌝ }
 {
     let picture = bench.picture;
     Bench {
@@ -47,7 +46,7 @@ fn with_output(bench: Bench, output: Output) -> Bench
 
 // A fresh picture for L.
 fn fresh(bench: Bench, text: &mut [u8; SPACE], l: usize) -> Bench
-    ensures { λ r. ⌜ Reached (viewOf (r .picture)) ⌝ }
+    ensures { λ r. ⌜ HandedOut (r .picture) ⌝ }
 {
     let output = bench.output;
     let values = [l];
@@ -75,8 +74,8 @@ fn fresh(bench: Bench, text: &mut [u8; SPACE], l: usize) -> Bench
 
 // The order room lent from now on.
 fn room(bench: Bench, text: &mut [u8; SPACE], n: usize) -> Bench
-    requires { ⌜ Reached (viewOf (bench .picture)) ⌝ }
-    ensures { λ r. ⌜ Reached (viewOf (r .picture)) ⌝ }
+    requires { ⌜ HandedOut (bench .picture) ⌝ }
+    ensures { λ r. ⌜ HandedOut (r .picture) ⌝ }
 {
     let output = bench.output;
     let values = [n];
@@ -118,8 +117,8 @@ fn recorded_lines(
 
 // Offers a record with so much order room.
 fn offer(bench: Bench, text: &mut [u8; SPACE], record: &[u8], lent: &mut [u8]) -> Bench
-    requires { ⌜ Reached (viewOf (bench .picture)) ⌝ }
-    ensures { λ r. ⌜ Reached (viewOf (r .picture)) ⌝ }
+    requires { ⌜ HandedOut (bench .picture) ⌝ }
+    ensures { λ r. ⌜ HandedOut (r .picture) ⌝ }
 {
     let picture = bench.picture;
     let asked = echo(bench.output, text, record);
@@ -142,8 +141,8 @@ fn offer_if_fits(
     n: usize,
     orders: &mut [u8],
 ) -> Bench
-    requires { ⌜ Reached (viewOf (bench .picture)) ⌝ }
-    ensures { λ r. ⌜ Reached (viewOf (r .picture)) ⌝ }
+    requires { ⌜ HandedOut (bench .picture) ⌝ }
+    ensures { λ r. ⌜ HandedOut (r .picture) ⌝ }
 {
     let length = smaller(n, record.len());
     if fields::wider(&record[0..length], MAX_LINE - 2) {
@@ -155,8 +154,8 @@ fn offer_if_fits(
 
 // A line that is no command.
 fn not_understood(bench: Bench, text: &mut [u8; SPACE], line: &[u8], reason: u8) -> Bench
-    requires { ⌜ Reached (viewOf (bench .picture)) ⌝ }
-    ensures { λ r. ⌜ Reached (viewOf (r .picture)) ⌝ }
+    requires { ⌜ HandedOut (bench .picture) ⌝ }
+    ensures { λ r. ⌜ HandedOut (r .picture) ⌝ }
 {
     let output = bench.output;
     with_output(
@@ -207,8 +206,8 @@ fn obey(
     record: &mut [u8],
     orders: &mut [u8],
 ) -> Bench
-    requires { ⌜ Reached (viewOf (bench .picture)) ⌝ }
-    ensures { λ r. ⌜ Reached (viewOf (r .picture)) ⌝ }
+    requires { ⌜ HandedOut (bench .picture) ⌝ }
+    ensures { λ r. ⌜ HandedOut (r .picture) ⌝ }
 {
     let command = command::parse(line, record);
     match command {
@@ -232,8 +231,8 @@ fn answer(
     record: &mut [u8],
     orders: &mut [u8],
 ) -> Bench
-    requires { ⌜ Reached (viewOf (bench .picture)) ⌝ }
-    ensures { λ r. ⌜ Reached (viewOf (r .picture)) ⌝ }
+    requires { ⌜ HandedOut (bench .picture) ⌝ }
+    ensures { λ r. ⌜ HandedOut (r .picture) ⌝ }
 {
     let kind = text_answers::kind_of(line);
     match kind {
@@ -255,8 +254,8 @@ fn if_fits(
     record: &mut [u8],
     orders: &mut [u8],
 ) -> Bench
-    requires { ⌜ Reached (viewOf (bench .picture)) ⌝ }
-    ensures { λ r. ⌜ Reached (viewOf (r .picture)) ⌝ }
+    requires { ⌜ HandedOut (bench .picture) ⌝ }
+    ensures { λ r. ⌜ HandedOut (r .picture) ⌝ }
 {
     if line.len() < length {
         return not_understood(bench, text, line, TOO_LONG);
@@ -273,8 +272,8 @@ fn turn(
     record: &mut [u8; MAX_RECORD],
     orders: &mut [u8; MAX_ROOM],
 ) -> Bench
-    requires { ⌜ Reached (viewOf (bench .picture)) ⌝ }
-    ensures { λ r. ⌜ Reached (viewOf (r .picture)) ⌝ }
+    requires { ⌜ HandedOut (bench .picture) ⌝ }
+    ensures { λ r. ⌜ HandedOut (r .picture) ⌝ }
 {
     let next = if_fits(bench, text, line, length, record, orders);
     let output = next.output;

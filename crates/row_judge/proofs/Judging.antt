@@ -44,11 +44,11 @@ module _ (bs ns : List ℕ) (h : length bs ≡ maxPairs) (k : length ns ≡ maxP
       → drop i (judgedOf (pairsFrom c bs ns) gs)
       ≡ record { pair = pairOf (getD bs i 0) (getD ns i 0); good = getD gs i false } ∷ drop (i + 1) (judgedOf (pairsFrom c bs ns) gs)
   judged-at l m =
-      judged-here i (pairOf 0 0) false (pairsFrom c bs ns) gs (omega (arith, pairs-length bs ns h k c)) m
-      ∙ ap (λ (a : Pair). record { pair = a; good = getD gs i false } ∷ drop (i + 1) (judgedOf (pairsFrom c bs ns) gs)) (pairs-at bs ns h k c i (pairOf 0 0) l)
+      judged-here i (pairOf 0 0) false (pairsFrom c bs ns) gs (omega (arith, pairs-length _ bs ns h k c)) m
+      ∙ ap (λ (a : Pair). record { pair = a; good = getD gs i false } ∷ drop (i + 1) (judgedOf (pairsFrom c bs ns) gs)) (pairs-at _ bs ns h k c i (pairOf 0 0) l)
 
   pub judged-end : min c maxPairs ≤ i → drop i (judgedOf (pairsFrom c bs ns) gs) ≡ []
-  judged-end l = judged-past i (pairsFrom c bs ns) gs (omega (arith, pairs-length bs ns h k c))
+  judged-end l = judged-past i (pairsFrom c bs ns) gs (omega (arith, pairs-length _ bs ns h k c))
 
 pub judged-few : (ps : List Pair) (gs : List Bool) → length (judgedOf ps gs) ≤ length ps
 unfolding judgedOf

@@ -6,10 +6,15 @@ use mathlib.Core.List.{List}
 use mathlib.Core.Option.{Option, none, some}
 use lib.Dec.{eqb, ltb}
 use lib.ListN.{length, getD}
+use Rattle.laws.specs.Lists.{collect}
 use Rattle.rules.specs.House.{maxTries}
 use Rattle.rules.specs.Renumber as rules
-use Rattle.rules.specs.Renumber.{Judged, isIn, offer, finished, renumbers}
-use Rattle.wire_pairs.specs.View.{pairOf}
+use Rattle.rules.specs.Renumber.{Judged, freeNumber, isIn, offer, finished, renumbers}
+use Rattle.rules.specs.Picture.{pairsIn}
+use Rattle.wire_pairs.specs.declared.Pairs.{Pairs}
+use Rattle.wire_pairs.specs.View.{pairOf, pairsOf}
+use Rattle.row_entry.specs.declared.NodeEntry.{NodeEntry}
+use Rattle.row_entry.specs.View.{rowsOf}
 use Rattle.row_renumber.specs.declared.free.Free.{Free}
 use Rattle.row_renumber.specs.declared.free.Free.the-variants as frees
 use Rattle.row_renumber.specs.declared.renumber.Renumbering.{Renumbering}
@@ -32,6 +37,10 @@ leastBy f (suc left) n = cond (f n) (leastBy f left (suc n)) (some n)
 abbrev pub freeOf : Free → Option ℕ
 freeOf (frees.Number n) = some n
 freeOf frees.Nothing = none
+
+-- the free number of a block beside these entries and the announced pairs
+abbrev pub freeFor : ℕ → List NodeEntry → Pairs → ℕ → Option ℕ
+freeFor k es announced = freeNumber (collect pairsIn (rowsOf k es)) (pairsOf announced)
 
 -- a block that is known to be full: it has no free number, if it is one
 abbrev pub NoneFree : (ℕ → Option ℕ) → ℕ → Type 0

@@ -1,13 +1,10 @@
 // Which pair is renumbered to what.
 ghost use mathlib.Core.Path.{_≡_};
 ghost use Prim.Native.Nat.{_<_};
-ghost use Rattle.laws.specs.Lists.{collect};
-ghost use Rattle.rules.specs.Picture.{pairsIn};
-ghost use Rattle.rules.specs.Renumber.{freeNumber, finished, renumber};
+ghost use Rattle.rules.specs.Renumber.{finished, renumber};
 ghost use Rattle.wire_pairs.specs.View.{pairOf, pairsOf};
-ghost use Rattle.row_entry.specs.View.{rowsOf};
 ghost use Rattle.row_judge.specs.Marks.{judgedOf};
-ghost use Rattle.row_renumber.specs.Marks.{NoneFree, attemptOf, freeOf, isOffer, renumberingOf};
+ghost use Rattle.row_renumber.specs.Marks.{NoneFree, attemptOf, freeFor, freeOf, isOffer, renumberingOf};
 use super::free;
 use super::free::Free;
 use row_entry::NodeEntry;
@@ -59,8 +56,8 @@ fn free_for(
     announced: Pairs,
     block: u8,
 ) -> Free
-    requires { ⌜ NoneFree (freeNumber (collect pairsIn (rowsOf count entries)) (pairsOf announced)) full ⌝ }
-    ensures { λ r. ⌜ freeOf r ≡ freeNumber (collect pairsIn (rowsOf count entries)) (pairsOf announced) block ⌝ }
+    requires { ⌜ NoneFree (freeFor count entries announced) full ⌝ }
+    ensures { λ r. ⌜ freeOf r ≡ freeFor count entries announced block ⌝ }
 {
     if full == block as u16 {
         return Free::Nothing;
@@ -96,8 +93,9 @@ fn attempt(
     block: u8,
     number: u8,
 ) -> Attempted
-    requires { ⌜ NoneFree (freeNumber (collect pairsIn (rowsOf count entries)) (pairsOf announced)) full ⌝ }
-    ensures { λ r. ⌜ (renumberingOf (r .renumbering) ≡ attemptOf (freeNumber (collect pairsIn (rowsOf count entries)) (pairsOf announced)) place tries (record { pair = pairOf block number; good = good })) × NoneFree (freeNumber (collect pairsIn (rowsOf count entries)) (pairsOf announced)) (r .full) ⌝ }
+    requires { ⌜ NoneFree (freeFor count entries announced) full ⌝ }
+    ensures { λ r. ⌜ (renumberingOf (r .renumbering) ≡ attemptOf (freeFor count entries announced) place tries (record { pair = pairOf block number; good = good }))
+        × NoneFree (freeFor count entries announced) (r .full) ⌝ }
 {
     if good {
         return passed(full);
@@ -130,7 +128,7 @@ pub fn renumber_from(
     place: u8,
     tries: u8,
 ) -> Renumbering
-    ensures { λ r. ⌜ renumberingOf r ≡ renumber (freeNumber (collect pairsIn (rowsOf count entries)) (pairsOf announced)) place tries (judgedOf (pairsOf announced) good) ⌝ }
+    ensures { λ r. ⌜ renumberingOf r ≡ renumber (freeFor count entries announced) place tries (judgedOf (pairsOf announced) good) ⌝ }
 {
     let n = announced.len();
     let mut full = NO_BLOCK;

@@ -4,6 +4,7 @@ ghost use Prim.Native.Nat.{_≤_};
 ghost use Rattle.rules.specs.House.{minSize, maxPayload};
 ghost use Rattle.rules.specs.Telegram.{countOf, count};
 ghost use Rattle.tel_count.specs.Answers.{countNumberOf, countValueOf, countAnswer};
+use numbers::DONE;
 use numbers::ILLEGAL_SIZE;
 use numbers::PAYLOAD_TOO_LONG;
 
@@ -20,7 +21,7 @@ impl CountAnswer {
     {
         match self {
             CountAnswer::Refused(number) => number,
-            CountAnswer::Telegrams(_) => 0,
+            CountAnswer::Telegrams(_) => DONE,
         }
     }
 

@@ -10,6 +10,7 @@ ghost use Rattle.rules.specs.Picture.{legalSize};
 ghost use Rattle.rules.specs.Telegram.{telegram, cut};
 ghost use Rattle.tel_cut.specs.Answers.{cutNumberOf, cutLengthOf, Cuts};
 ghost use Rattle.tel_cut.specs.Parts.{partId};
+use numbers::DONE;
 use numbers::ILLEGAL_SIZE;
 use numbers::NO_SUCH_TELEGRAM;
 use numbers::PAYLOAD_TOO_LONG;
@@ -34,7 +35,7 @@ impl CutAnswer {
     {
         match self {
             CutAnswer::Refused(number) => number,
-            CutAnswer::Length(_) => 0,
+            CutAnswer::Length(_) => DONE,
         }
     }
 
@@ -100,7 +101,8 @@ fn write_part(
     buffer: &mut [u8],
 )
     requires { ⌜ («tel_id» < 16) × (from ≤ to) × (to ≤ length (now payload)) × (1 + (to - from) < 4096) × (7 + (to - from) ≤ length (now buffer)) ⌝ }
-    ensures { λ _. ⌜ now (buffer .exit) ≡ sets (now (buffer .entry)) 0 (telegram «msg_id» «tel_id» (counter ∷ take (to - from) (drop from (now (payload .entry))))) ⌝ }
+    ensures { λ _. ⌜ now (buffer .exit) ≡ sets (now (buffer .entry)) 0 (telegram «msg_id» «tel_id»
+        (counter ∷ take (to - from) (drop from (now (payload .entry))))) ⌝ }
 {
     tel_head::write_head(buffer, msg_id, tel_id, (1 + (to - from)) as u32);
     buffer[COUNTER] = counter;

@@ -22,8 +22,10 @@ use tel_join_state::Reassembly;
 
 // A well-formed telegram with a TelID up to 3.
 fn take(state: Reassembly, tel_id: u32, buffer: &mut [u8], telegram: &[u8]) -> Joined
-    requires { ⌜ (maxPayload ≤ length (now buffer)) × (6 ≤ length (now telegram)) × (length (now telegram) ≤ 6 + maxSize) × ((«tel_id» ≡ 0 → ⊥) → 7 ≤ length (now telegram)) ⌝ }
-    ensures { λ r. ⌜ Joins state (joinTo «tel_id» (joiningOf state) (be4 (now (telegram .entry)) 0) (drop 6 (now (telegram .entry))) (now (buffer .entry))) r (now (buffer .exit)) ⌝ }
+    requires { ⌜ (maxPayload ≤ length (now buffer)) × (6 ≤ length (now telegram)) × (length (now telegram) ≤ 6 + maxSize)
+        × ((«tel_id» ≡ 0 → ⊥) → 7 ≤ length (now telegram)) ⌝ }
+    ensures { λ r. ⌜ Joins state (joinTo «tel_id» (joiningOf state) (be4 (now (telegram .entry)) 0) (drop 6 (now (telegram .entry)))
+        (now (buffer .entry))) r (now (buffer .exit)) ⌝ }
 {
     let msg_id = tel_head::msg_id(telegram);
     if tel_id == TEL_ID_SINGLE {

@@ -5,6 +5,7 @@ ghost use lib.ListN.{length};
 ghost use Rattle.rules.specs.House.{maxSize, maxPayload};
 ghost use Rattle.rules.specs.Telegram.{idle, opened, begins, continues};
 ghost use Rattle.tel_join_state.specs.Answers.{joinNumberOf, joinMsgIdOf, joinLengthOf, joiningOf, stateOf, Joins};
+use numbers::DONE;
 use numbers::OUT_OF_SEQUENCE;
 use sizes::MAX_PAYLOAD;
 
@@ -38,11 +39,11 @@ impl JoinAnswer {
     {
         match self {
             JoinAnswer::Refused(number) => number,
-            JoinAnswer::Open => 0,
+            JoinAnswer::Open => DONE,
             JoinAnswer::Complete {
                 msg_id: _,
                 length: _,
-            } => 0,
+            } => DONE,
         }
     }
 

@@ -31,7 +31,8 @@ fn pass_on(
     buffer: &mut [u8],
 ) -> Joined
     requires { ⌜ (legalSize l ≡ true) × (length (now payload) ≤ maxPayload) × (1 ≤ number) × (number ≤ countOf l (length (now payload))) ⌝ }
-    ensures { λ r. ⌜ Joins state (join l (joiningOf state) (now (buffer .entry)) (telegramOf l «msg_id» (now (payload .entry)) number)) r (now (buffer .exit)) ⌝ }
+    ensures { λ r. ⌜ Joins state (join l (joiningOf state) (now (buffer .entry)) (telegramOf l «msg_id» (now (payload .entry)) number))
+        r (now (buffer .exit)) ⌝ }
 {
     let mut telegram = [0u8; LONGEST];
     let length = tel_cut::cut(l, msg_id, payload, number, &mut telegram).length();
@@ -41,7 +42,8 @@ fn pass_on(
 // Cuts a message and joins its telegrams in their order: it is complete, with its MsgID and its length, and `buffer` holds its bytes. Or 10, 11
 // or 13, which leave `buffer` as it is.
 pub fn cut_and_join(l: usize, msg_id: u32, payload: &[u8], buffer: &mut [u8]) -> JoinAnswer
-    ensures { λ r. ⌜ (r ≡ back l «msg_id» (now (payload .entry)) (now (buffer .entry)) .answer) × (now (buffer .exit) ≡ back l «msg_id» (now (payload .entry)) (now (buffer .entry)) .buffer) ⌝ }
+    ensures { λ r. ⌜ (r ≡ back l «msg_id» (now (payload .entry)) (now (buffer .entry)) .answer)
+        × (now (buffer .exit) ≡ back l «msg_id» (now (payload .entry)) (now (buffer .entry)) .buffer) ⌝ }
 {
     if sizes::illegal(l) {
         return JoinAnswer::Refused(ILLEGAL_SIZE);

@@ -116,7 +116,8 @@ impl Argument {
 
     // The rest of the line as bytes, into `bytes`; the value is their number, as far as there is room for them.
     pub fn bytes(self, line: &[u8], bytes: &mut [u8]) -> Argument
-        ensures { λ r. ⌜ (r ≡ bytesAt (now (line .entry)) (length (now (bytes .entry))) self) × (now (bytes .exit) ≡ sets (now (bytes .entry)) 0 (bytesStored (now (line .entry)) self)) ⌝ }
+        ensures { λ r. ⌜ (r ≡ bytesAt (now (line .entry)) (length (now (bytes .entry))) self)
+            × (now (bytes .exit) ≡ sets (now (bytes .entry)) 0 (bytesStored (now (line .entry)) self)) ⌝ }
     {
         if self.reason != UNDERSTOOD {
             return self;

@@ -1,16 +1,21 @@
 -- Orders that list pairs, one behind the other: what one turn of a loop over pairs writes.
 use Prim.Native.Nat.{ℕ, zero, suc, _+_, _-_, _/_, _≤_, _<_, min}
-use mathlib.Core.Path.{_≡_, refl, sym, _∙_, ap}
+use mathlib.Core.Path.{_≡_, refl, sym, _∙_, ap, subst}
 use mathlib.Core.List.{List, [], _∷_, _++_, map}
 use native.Mathlib.Nat.{not-suc-le-zero}
 use native.Mathlib.Omega.{arith}
 use lib.ListN.{length, length-append, take, drop, length-drop}
 use lib.Seq.{drop-drop}
-use Rattle.laws.specs.Buffers.{Wrote, Owes, owes-on}
+use Rattle.laws.specs.Buffers.{Wrote, Owes, owes-on, wrote-along}
 use Rattle.laws.specs.Lists.{collect}
 use Rattle.rules.specs.Picture.{Pair}
 use Rattle.rules.specs.Order.{Order, encode, encodeAll}
 use Rattle.rules.specs.Ending.{packed, tell}
+use Rattle.wire_pairs.specs.View.{pairsFrom}
+use Rattle.wire_pairs.proofs.Arrays.{first-length}
+use Rattle.wire_orders.proofs.Bytes.{delta-length, part-length, part-same}
+use Rattle.wire_orders.specs.View.{deltaOf, listSize, part}
+use Rattle.wire_orders.specs.declared.Delta.{Delta}
 
 -- enough orders are enough, however many more there could be
 packed-enough : (m n cap : ℕ) (ps : List Pair) → 1 ≤ cap → length ps ≤ m → length ps ≤ n → packed m cap ps ≡ packed n cap ps
@@ -85,3 +90,31 @@ module _ (pass : ℕ) where
     pub tell-end : {ps : List Pair} → ps ≡ [] → encodeAll pass (tell order size ps) ≡ []
     unfolding tell packed encodeAll collect
     tell-end e = ap (λ (l : List Pair). encodeAll pass (tell order size l)) e
+
+-- pairs of two arrays: n of those held, from i on, as many as fit or all that are left, are one order
+module _ (pass : ℕ) (d : Delta) (size : ℕ) (bs ns : List ℕ) (c held i n : ℕ) (s : 3 ≤ size) (g : held ≡ min c (min (length bs) (length ns))) (h : i < held)
+    (e : n ≡ min ((size - 1) / 2) (held - i)) where
+  -- the pairs, how many they are, and the part that the order lists
+  abbrev pairs : List Pair
+  pairs = pairsFrom c bs ns
+
+  all : length pairs ≡ held
+  all = first-length bs ns c ∙ sym g
+
+  same : take n (drop i pairs) ≡ part i n bs ns
+  same = part-same bs ns c i n (omega arith)
+
+  -- how long the order is
+  size-of : length (encode pass (deltaOf d (take n (drop i pairs)))) ≡ listSize n
+  size-of = delta-length pass d (take n (drop i pairs)) ∙ ap listSize (ap length same ∙ part-length bs ns i n (omega arith))
+
+  -- room for it, and the pairs behind it still owed
+  pub part-room : {b f : List ℕ} {at j l : ℕ} {whole : List ℕ} → Owes b at whole j f (encodeAll pass (tell (deltaOf d) size (drop i pairs)))
+      → at + length whole ≤ l → j + listSize n ≤ l
+  part-room {j = j} {l = l} w k = subst (λ (m : ℕ). j + m ≤ l) size-of (tell-room pass (deltaOf d) size n i pairs s (rw all h) (rw all e) w k)
+
+  pub part-turn : {b f g : List ℕ} {at j k : ℕ} {whole : List ℕ} → Wrote f j (encode pass (deltaOf d (part i n bs ns))) k g
+      → Owes b at whole j f (encodeAll pass (tell (deltaOf d) size (drop i pairs)))
+      → Owes b at whole k g (encodeAll pass (tell (deltaOf d) size (drop (i + n) pairs)))
+  part-turn v =
+      tell-turn pass (deltaOf d) size n i pairs s (rw all h) (rw all e) (wrote-along (ap (λ (ps : List Pair). encode pass (deltaOf d ps)) (sym same)) v)

@@ -1,16 +1,15 @@
 // Orders: each written into a lent buffer from a place on; the place behind it is handed back.
 ghost use mathlib.Core.Path.{_≡_};
-ghost use Prim.Native.Nat.{_+_, _≤_, min};
-ghost use mathlib.Core.List.{[], _∷_};
-ghost use lib.ListN.{length, take, drop};
+ghost use Prim.Native.Nat.{_+_, _*_, _≤_, _<_, min};
+ghost use mathlib.Core.List.{[]};
+ghost use lib.ListN.{length};
 ghost use Rattle.laws.specs.Buffers.{Wrote};
 ghost use Rattle.laws.specs.Lists.{collect};
-ghost use Rattle.rules.specs.House.{maxPairs};
-ghost use Rattle.rules.specs.Event.{four, pairBytes};
+ghost use Rattle.rules.specs.Event.{pairBytes};
 ghost use Rattle.rules.specs.Order.{ASK, SET, kindOf, encode, encodeAll};
 ghost use Rattle.rules.specs.Ending.{tell};
-ghost use Rattle.wire_pairs.specs.View.{pairsOf};
-ghost use Rattle.wire_orders.specs.View.{noticeOf, deltaOf};
+ghost use Rattle.wire_pairs.specs.View.{pairsFrom, pairsOf};
+ghost use Rattle.wire_orders.specs.View.{noticeOf, deltaOf, headBytes, headSize, pairSize, listSize, part};
 use wire_address::LogicalNodeAddress;
 use wire_address::NodePosition;
 use wire_pairs::Pairs;
@@ -22,6 +21,28 @@ const MARK_SECOND: u8 = 0x4F;
 
 // Mark, kind and pass.
 const HEAD: usize = 7;
+
+// Where kind and pass stand in an order.
+const KIND: usize = 2;
+
+const PASS: usize = 3;
+
+// What stands behind the head of an ASK: the position.
+const ASK_BODY: usize = 1;
+
+// What stands behind the head of a SET, the position first, and where the other fields stand in it.
+const SET_BODY: usize = 6;
+
+const SET_ADDRESS: usize = 1;
+
+const SET_BLOCK: usize = 3;
+
+const SET_OLD: usize = 4;
+
+const SET_NEW: usize = 5;
+
+// The count that stands before pairs.
+const COUNT: usize = 1;
 
 // Block and number.
 const PAIR: usize = 2;
@@ -59,14 +80,26 @@ pub enum Delta {
 
 // Mark, kind and pass.
 fn write_head(out: &mut [u8], at: usize, kind: u8, pass: u32) -> usize
-    requires { ⌜ at + 7 ≤ length (now out) ⌝ }
-    ensures { λ r. ⌜ Wrote (now (out .entry)) at (0x4D ∷ 0x4F ∷ kind ∷ four pass) r (now (out .exit)) ⌝ }
+    requires { ⌜ at + headSize ≤ length (now out) ⌝ }
+    ensures { λ r. ⌜ Wrote (now (out .entry)) at (headBytes kind pass) r (now (out .exit)) ⌝ }
 {
     out[at] = MARK_FIRST;
     out[at + 1] = MARK_SECOND;
-    out[at + 2] = kind;
-    wire_octets::write4(out, at + 3, pass);
+    out[at + KIND] = kind;
+    wire_octets::write4(out, at + PASS, pass);
     at + HEAD
+}
+
+// The kind of a notice.
+fn notice_kind(notice: Notice) -> u8
+    ensures { λ r. ⌜ r ≡ kindOf (noticeOf notice) ⌝ }
+{
+    match notice {
+        Notice::Ok => OK,
+        Notice::NotOk => NOTOK,
+        Notice::WaitShort => WAIT_SHORT,
+        Notice::WaitLong => WAIT_LONG,
+    }
 }
 
 // OK, NOTOK, WAIT SHORT or WAIT LONG.
@@ -74,12 +107,8 @@ pub fn write_notice(out: &mut [u8], at: usize, pass: u32, notice: Notice) -> usi
     requires { ⌜ at + length (encode pass (noticeOf notice)) ≤ length (now out) ⌝ }
     ensures { λ r. ⌜ Wrote (now (out .entry)) at (encode pass (noticeOf notice)) r (now (out .exit)) ⌝ }
 {
-    match notice {
-        Notice::Ok => write_head(out, at, OK, pass),
-        Notice::NotOk => write_head(out, at, NOTOK, pass),
-        Notice::WaitShort => write_head(out, at, WAIT_SHORT, pass),
-        Notice::WaitLong => write_head(out, at, WAIT_LONG, pass),
-    }
+    let kind = notice_kind(notice);
+    write_head(out, at, kind, pass)
 }
 
 // ASK: a question goes by position.
@@ -89,7 +118,7 @@ pub fn write_ask(out: &mut [u8], at: usize, pass: u32, position: NodePosition) -
 {
     let body = write_head(out, at, ASK, pass);
     out[body] = position.0;
-    body + 1
+    body + ASK_BODY
 }
 
 // SET: a renumbering goes by address; the position says where the unit sits.
@@ -108,15 +137,15 @@ pub fn write_set(
 {
     let body = write_head(out, at, SET, pass);
     out[body] = position.0;
-    wire_octets::write2(out, body + 1, address.0 as u32);
-    out[body + 3] = block;
-    out[body + 4] = old;
-    out[body + 5] = new;
-    body + 6
+    wire_octets::write2(out, body + SET_ADDRESS, address.0 as u32);
+    out[body + SET_BLOCK] = block;
+    out[body + SET_OLD] = old;
+    out[body + SET_NEW] = new;
+    body + SET_BODY
 }
 
 // The kind of an order that lists pairs.
-fn kind_of(delta: Delta) -> u8
+fn delta_kind(delta: Delta) -> u8
     ensures { λ r. ⌜ r ≡ kindOf (deltaOf delta []) ⌝ }
 {
     match delta {
@@ -136,16 +165,23 @@ fn least(a: usize, b: usize) -> usize
 }
 
 // The bytes of `n` pairs, those from `from` on.
-fn write_pairs(out: &mut [u8], at: usize, pairs: Pairs, from: usize, n: usize) -> usize
-    requires { ⌜ (from + n ≤ min (pairs .count) maxPairs) × (at + length (collect pairBytes (take n (drop from (pairsOf pairs)))) ≤ length (now out)) ⌝ }
-    ensures { λ r. ⌜ Wrote (now (out .entry)) at (collect pairBytes (take n (drop from (pairsOf pairs)))) r (now (out .exit)) ⌝ }
+fn write_pairs(
+    out: &mut [u8],
+    at: usize,
+    blocks: &[u8],
+    numbers: &[u8],
+    from: usize,
+    n: usize,
+) -> usize
+    requires { ⌜ (from + n ≤ min (length (now blocks)) (length (now numbers))) × (at + pairSize * n ≤ length (now out)) ⌝ }
+    ensures { λ r. ⌜ Wrote (now (out .entry)) at (collect pairBytes (part from n (now (blocks .entry)) (now (numbers .entry)))) r (now (out .exit)) ⌝ }
 {
     let to = from + n;
     let mut end = at;
     let mut i = from;
     while i < to {
-        out[end] = pairs.blocks[i];
-        out[end + 1] = pairs.numbers[i];
+        out[end] = blocks[i];
+        out[end + 1] = numbers[i];
         end += PAIR;
         i += 1;
     }
@@ -158,20 +194,51 @@ fn write_part(
     at: usize,
     pass: u32,
     delta: Delta,
-    pairs: Pairs,
+    blocks: &[u8],
+    numbers: &[u8],
     from: usize,
     n: usize,
 ) -> usize
-    requires { ⌜ (from + n ≤ min (pairs .count) maxPairs) × (at + length (encode pass (deltaOf delta (take n (drop from (pairsOf pairs))))) ≤ length (now out)) ⌝ }
-    ensures { λ r. ⌜ Wrote (now (out .entry)) at (encode pass (deltaOf delta (take n (drop from (pairsOf pairs))))) r (now (out .exit)) ⌝ }
+    requires { ⌜ (n < 256) × (from + n ≤ min (length (now blocks)) (length (now numbers))) × (at + listSize n ≤ length (now out)) ⌝ }
+    ensures { λ r. ⌜ Wrote (now (out .entry)) at
+        (encode pass (deltaOf delta (part from n (now (blocks .entry)) (now (numbers .entry))))) r (now (out .exit)) ⌝ }
 {
-    let kind = kind_of(delta);
+    let kind = delta_kind(delta);
     let body = write_head(out, at, kind, pass);
     out[body] = n as u8;
-    write_pairs(out, body + 1, pairs, from, n)
+    write_pairs(out, body + COUNT, blocks, numbers, from, n)
 }
 
-// NEW or INVALID: the pairs, in their order, as many orders as L asks for; none for no pairs.
+// NEW or INVALID: the first `count` pairs of two slices, in their order, as many orders as L asks for; none for no pairs.
+pub fn write_deltas(
+    out: &mut [u8],
+    at: usize,
+    pass: u32,
+    delta: Delta,
+    size: u8,
+    blocks: &[u8],
+    numbers: &[u8],
+    count: usize,
+) -> usize
+    requires { ⌜ (3 ≤ size)
+        × (at + length (encodeAll pass (tell (deltaOf delta) size (pairsFrom count (now blocks) (now numbers)))) ≤ length (now out)) ⌝ }
+    ensures { λ r. ⌜ Wrote (now (out .entry)) at
+        (encodeAll pass (tell (deltaOf delta) size (pairsFrom count (now (blocks .entry)) (now (numbers .entry))))) r (now (out .exit)) ⌝ }
+{
+    let most = (size as usize - COUNT) / PAIR;
+    let held = least(count, least(blocks.len(), numbers.len()));
+    let mut end = at;
+    let mut from = 0;
+    while from < held {
+        let n = least(most, held - from);
+        let next = write_part(out, end, pass, delta, blocks, numbers, from, n);
+        end = next;
+        from += n;
+    }
+    end
+}
+
+// NEW or INVALID for the pairs of a node.
 pub fn write_delta(
     out: &mut [u8],
     at: usize,
@@ -183,15 +250,7 @@ pub fn write_delta(
     requires { ⌜ (3 ≤ size) × (at + length (encodeAll pass (tell (deltaOf delta) size (pairsOf pairs))) ≤ length (now out)) ⌝ }
     ensures { λ r. ⌜ Wrote (now (out .entry)) at (encodeAll pass (tell (deltaOf delta) size (pairsOf pairs))) r (now (out .exit)) ⌝ }
 {
-    let most = (size - 1) as usize / PAIR;
-    let count = pairs.len();
-    let mut end = at;
-    let mut from = 0;
-    while from < count {
-        let n = least(most, count - from);
-        let next = write_part(out, end, pass, delta, pairs, from, n);
-        end = next;
-        from += n;
-    }
-    end
+    let blocks = pairs.blocks;
+    let numbers = pairs.numbers;
+    write_deltas(out, at, pass, delta, size, &blocks, &numbers, pairs.count)
 }

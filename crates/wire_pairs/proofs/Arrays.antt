@@ -4,27 +4,28 @@ use mathlib.Core.Path.{_≡_, refl, sym, _∙_, ap}
 use mathlib.Core.List.{List, [], _∷_, _++_, append-assoc, append-nil}
 use native.Mathlib.Nat.{not-suc-le-zero, le-of-suc-le-suc}
 use native.Mathlib.Omega.{arith}
-use lib.ListN.{length, getD, set, drop}
+use lib.ListN.{length, getD, set, drop, drop-of-length-le}
 use lib.Seq.{set-out}
-use Rattle.laws.specs.Views.{firsts, firsts-length, firsts-few, firsts-here, firsts-past, firsts-at, firsts-set, firsts-push, firsts-min}
+use Rattle.laws.specs.Views.{firsts, firsts-length, firsts-few, firsts-here, firsts-at, firsts-set, firsts-push, firsts-min}
 use mathlib.Core.Bool.{Bool, true, false, cond, not}
 use Rattle.laws.specs.Lists.{select}
-use Rattle.rules.specs.House.{maxPairs}
 use Rattle.rules.specs.Ending.{missing}
 use Rattle.rules.specs.Picture as rules
 use Rattle.rules.specs.Picture.{Pair}
 use Rattle.wire_pairs.specs.View.{pairOf, zipPairs, pairsFrom}
 
-pub zip-length : (n : ℕ) (bs ns : List ℕ) → length bs ≡ n → length ns ≡ n → length (zipPairs bs ns) ≡ n
+-- the shorter one ends both
+pub zip-short : (bs ns : List ℕ) → length (zipPairs bs ns) ≡ min (length bs) (length ns)
 unfolding zipPairs
-zip-length n [] ns h k = h
-zip-length n (b ∷ bs) [] h k = k
-zip-length n (b ∷ bs) (m ∷ ns) h k = ap suc (zip-length (length bs) bs ns refl (ap pred (k ∙ sym h))) ∙ h
-  where
-    pred : ℕ → ℕ
-    pred zero = zero
-    pred (suc n) = n
+zip-short [] ns = omega arith
+zip-short (b ∷ bs) [] = omega arith
+zip-short (b ∷ bs) (n ∷ ns) = let e = zip-short bs ns in omega arith
 
+-- as many as both have
+pub zip-length : (n : ℕ) (bs ns : List ℕ) → length bs ≡ n → length ns ≡ n → length (zipPairs bs ns) ≡ n
+zip-length n bs ns h k = omega (arith, zip-short bs ns)
+
+-- the pair at a place, and a store to both
 pub zip-at : (i : ℕ) (bs ns : List ℕ) (d : Pair) → i < length bs → i < length ns → getD (zipPairs bs ns) i d ≡ pairOf (getD bs i 0) (getD ns i 0)
 unfolding zipPairs
 zip-at i [] ns d h k = absurd (not-suc-le-zero h)
@@ -41,35 +42,46 @@ zip-set (suc i) (c ∷ bs) [] b n = refl
 zip-set zero (c ∷ bs) (m ∷ ns) b n = refl
 zip-set (suc i) (c ∷ bs) (m ∷ ns) b n = ap (λ (l : List Pair). pairOf c m ∷ l) (zip-set i bs ns b n)
 
-module _ (bs ns : List ℕ) (h : length bs ≡ maxPairs) (k : length ns ≡ maxPairs) where
+-- two arrays of any length: the pair at i, and those behind it; how many there are; none past the end
+module _ (bs ns : List ℕ) where
+  pub first-here : (c i : ℕ) → i < c → i < length bs → i < length ns
+      → drop i (pairsFrom c bs ns) ≡ pairOf (getD bs i 0) (getD ns i 0) ∷ drop (i + 1) (pairsFrom c bs ns)
+  unfolding pairsFrom
+  first-here c i l h k =
+      firsts-here (λ (a : Pair). a) c i (pairOf 0 0) (zipPairs bs ns) l (omega (arith, zip-short bs ns))
+      ∙ ap (λ (a : Pair). a ∷ drop (i + 1) (firsts (λ (a : Pair). a) c (zipPairs bs ns))) (zip-at i bs ns (pairOf 0 0) h k)
+
+  pub first-length : (c : ℕ) → length (pairsFrom c bs ns) ≡ min c (min (length bs) (length ns))
+  unfolding pairsFrom
+  first-length c =
+      let n = length (zipPairs bs ns) in
+      let e = firsts-length (λ (a : Pair). a) (min c n) (zipPairs bs ns) (omega arith) in
+      ap length (sym (firsts-min (λ (a : Pair). a) c n (zipPairs bs ns) (omega arith))) ∙ e ∙ ap (min c) (zip-short bs ns)
+
+  pub first-past : (c i : ℕ) → min c (min (length bs) (length ns)) ≤ i → drop i (pairsFrom c bs ns) ≡ []
+  first-past c i l = drop-of-length-le (pairsFrom c bs ns) {i = i} (omega (arith, first-length c))
+
+-- two arrays of one length
+module _ (cap : ℕ) (bs ns : List ℕ) (h : length bs ≡ cap) (k : length ns ≡ cap) where
   -- the pair at i, and those behind it; none past the end
-  pub pairs-here : (c i : ℕ) → i < min c maxPairs → drop i (pairsFrom c bs ns) ≡ pairOf (getD bs i 0) (getD ns i 0) ∷ drop (i + 1) (pairsFrom c bs ns)
+  pub pairs-here : (c i : ℕ) → i < min c cap → drop i (pairsFrom c bs ns) ≡ pairOf (getD bs i 0) (getD ns i 0) ∷ drop (i + 1) (pairsFrom c bs ns)
+  pairs-here c i l = first-here bs ns c i (omega arith) (omega arith) (omega arith)
+
+  pub pairs-past : (c i : ℕ) → min c cap ≤ i → drop i (pairsFrom c bs ns) ≡ []
+  pairs-past c i l = first-past bs ns c i (omega arith)
+
+  -- more than there are is all
+  pub pairs-min : (c : ℕ) → pairsFrom (min c cap) bs ns ≡ pairsFrom c bs ns
   unfolding pairsFrom
-  pairs-here c i l =
-      let z = zip-length maxPairs bs ns h k in
-      firsts-here (λ (a : Pair). a) c i (pairOf 0 0) (zipPairs bs ns) (omega arith) (omega arith)
-      ∙ ap (λ (a : Pair). a ∷ drop (i + 1) (firsts (λ (a : Pair). a) c (zipPairs bs ns))) (zip-at i bs ns (pairOf 0 0) (omega arith) (omega arith))
+  pairs-min c = firsts-min (λ (a : Pair). a) c cap (zipPairs bs ns) (omega (arith, zip-length cap bs ns h k))
 
-  pub pairs-past : (c i : ℕ) → min c maxPairs ≤ i → drop i (pairsFrom c bs ns) ≡ []
-  unfolding pairsFrom
-  pairs-past c i l = ap (drop i) (sym (firsts-min (λ (a : Pair). a) c maxPairs (zipPairs bs ns) (omega (arith, zip-length maxPairs bs ns h k)))) ∙ firsts-past (λ (a : Pair). a) (min c maxPairs) i (zipPairs bs ns) l
+  pub pairs-length : (c : ℕ) → length (pairsFrom c bs ns) ≡ min c cap
+  pairs-length c = omega (arith, first-length bs ns c)
 
-  -- more than 16 are 16
-  pub pairs-min : (c : ℕ) → pairsFrom (min c maxPairs) bs ns ≡ pairsFrom c bs ns
-  unfolding pairsFrom
-  pairs-min c = firsts-min (λ (a : Pair). a) c maxPairs (zipPairs bs ns) (omega (arith, zip-length maxPairs bs ns h k))
-
-  few-length : (c : ℕ) → c ≤ maxPairs → length (pairsFrom c bs ns) ≡ c
-  unfolding pairsFrom
-  few-length c l = firsts-length (λ (a : Pair). a) c (zipPairs bs ns) (omega (arith, zip-length maxPairs bs ns h k))
-
-  pub pairs-length : (c : ℕ) → length (pairsFrom c bs ns) ≡ min c maxPairs
-  pairs-length c = ap length (sym (pairs-min c)) ∙ few-length (min c maxPairs) (omega arith)
-
-  pub pairs-at : (c i : ℕ) (d : Pair) → i < min c maxPairs → getD (pairsFrom c bs ns) i d ≡ pairOf (getD bs i 0) (getD ns i 0)
+  pub pairs-at : (c i : ℕ) (d : Pair) → i < min c cap → getD (pairsFrom c bs ns) i d ≡ pairOf (getD bs i 0) (getD ns i 0)
   unfolding pairsFrom
   pairs-at c i d l =
-      let z = zip-length maxPairs bs ns h k in
+      let z = zip-length cap bs ns h k in
       firsts-at (λ (a : Pair). a) c i d d (zipPairs bs ns) (omega arith) (omega arith) ∙ zip-at i bs ns d (omega arith) (omega arith)
 
   -- a store behind the first c does not show
@@ -81,12 +93,12 @@ module _ (bs ns : List ℕ) (h : length bs ≡ maxPairs) (k : length ns ≡ maxP
       ∙ set-out ps c (pairOf b n) (firsts-few (λ (a : Pair). a) c (zipPairs bs ns))
 
   -- one more pair
-  pub pairs-push : (c b n : ℕ) → c < maxPairs → pairsFrom (c + 1) (set bs c b) (set ns c n) ≡ pairsFrom c bs ns ++ pairOf b n ∷ []
+  pub pairs-push : (c b n : ℕ) → c < cap → pairsFrom (c + 1) (set bs c b) (set ns c n) ≡ pairsFrom c bs ns ++ pairOf b n ∷ []
   unfolding pairsFrom
-  pairs-push c b n l = ap (firsts (λ (a : Pair). a) (c + 1)) (zip-set c bs ns b n) ∙ firsts-push (λ (a : Pair). a) c (pairOf b n) (zipPairs bs ns) (omega (arith, zip-length maxPairs bs ns h k))
+  pairs-push c b n l = ap (firsts (λ (a : Pair). a) (c + 1)) (zip-set c bs ns b n) ∙ firsts-push (λ (a : Pair). a) c (pairOf b n) (zipPairs bs ns) (omega (arith, zip-length cap bs ns h k))
 
   -- a pair stored behind them, and counted if it is kept
-  pub pairs-next : {e : ℕ} (kept : Bool) (c b n : ℕ) → c < maxPairs → e ≡ cond kept 1 0
+  pub pairs-next : {e : ℕ} (kept : Bool) (c b n : ℕ) → c < cap → e ≡ cond kept 1 0
       → pairsFrom (c + e) (set bs c b) (set ns c n) ≡ pairsFrom c bs ns ++ cond kept (pairOf b n ∷ []) []
   pairs-next true c b n l f = rw f (pairs-push c b n l)
   pairs-next false c b n l f = let z : c + 0 ≡ c = omega arith in rw (f, z) (pairs-behind c b n ∙ sym (append-nil (pairsFrom c bs ns)))

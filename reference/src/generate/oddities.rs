@@ -1,6 +1,7 @@
 //! Lines that are no ordinary commands: comments, empty lines, earlier answers, lines of each reason, long lines.
 
 use super::Script;
+use crate::player::MAX_LINE;
 
 /// Lines that end in each of the reasons, and other forms that do not.
 pub const RINGBOX: &[&str] = &[
@@ -194,7 +195,8 @@ fn garbage(script: &mut Script) {
 
 /// Writes a line near the limit of 16,384 bytes.
 fn long_line(script: &mut Script) {
-    let length = script.random.pick(&[16_381, 16_382, 16_383, 16_384, 16_385, 16_386, 16_390, 20_000]);
+    let beyond = script.random.pick(&[0, 1, 2, 3, 4, 5, 9, 3_619]);
+    let length = MAX_LINE - 3 + beyond;
     let start: &[u8] = script.random.pick(&[
         &b"# "[..],
         b"= ",

@@ -2,6 +2,9 @@
 
 use super::Random;
 
+/// The script has all its lines.
+pub struct Full;
+
 /// A script as far as it is written.
 pub struct Script {
     pub random: Random,
@@ -15,12 +18,13 @@ impl Script {
         Script { random: Random::new(seed), text: Vec::new(), lines: 0, limit }
     }
 
-    pub fn is_full(&self) -> bool {
-        self.lines >= self.limit
-    }
-
-    pub fn limit(&self) -> usize {
-        self.limit
+    /// Says whether there is room for more lines.
+    pub fn go_on(&self) -> Result<(), Full> {
+        if self.lines < self.limit {
+            Ok(())
+        } else {
+            Err(Full)
+        }
     }
 
     pub fn into_text(self) -> Vec<u8> {

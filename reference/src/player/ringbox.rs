@@ -2,14 +2,14 @@
 
 use super::{put, put_hex, put_refusal, Bench, Reason, Words};
 use crate::registry::{Ring, State, Status};
-
-const ROOM: usize = 8192;
+use crate::sizes::BENCH_ROOM;
+use crate::wire;
 
 /// A ring picture and the order room that is lent.
 pub struct Ringbox {
     ring: Ring,
     room: usize,
-    buffer: Box<[u8; ROOM]>,
+    buffer: Box<[u8; BENCH_ROOM]>,
 }
 
 pub enum Command {
@@ -24,7 +24,7 @@ pub enum Command {
 
 impl Ringbox {
     pub fn new() -> Ringbox {
-        Ringbox { ring: fresh_for_12(), room: ROOM, buffer: Box::new([0; ROOM]) }
+        Ringbox { ring: Ring::default(), room: BENCH_ROOM, buffer: Box::new([0; BENCH_ROOM]) }
     }
 
     fn fresh(&mut self, l: u32, out: &mut Vec<u8>) {
@@ -33,14 +33,14 @@ impl Ringbox {
             Ok(_) => put!(out, "= fresh {l}\n"),
             Err(number) => put_refusal(out, *number),
         }
-        self.ring = fresh.unwrap_or_else(|_| fresh_for_12());
+        self.ring = fresh.unwrap_or_default();
     }
 
     fn record(&mut self, bytes: &[u8], out: &mut Vec<u8>) {
         match self.ring.record(bytes, &mut self.buffer[..self.room]) {
             Ok(length) => {
                 out.extend_from_slice(b"= taken\n");
-                put_orders(out, &self.buffer[..length]);
+                wire::orders(&self.buffer[..length]).for_each(|order| put_order(out, order));
             }
             Err(number) => put_refusal(out, number),
         }
@@ -102,10 +102,6 @@ impl Default for Ringbox {
     }
 }
 
-fn fresh_for_12() -> Ring {
-    Ring::fresh(12).expect("12 is a payload size")
-}
-
 impl Bench for Ringbox {
     type Command = Command;
 
@@ -113,7 +109,7 @@ impl Bench for Ringbox {
         let mut words = Words::new(line);
         let command = match words.command() {
             b"fresh" => Command::Fresh(words.decimal(u32::MAX)?),
-            b"room" => Command::Room(words.decimal(ROOM as u32)? as usize),
+            b"room" => Command::Room(words.decimal(BENCH_ROOM as u32)? as usize),
             b">" => Command::Record(words.hex_bytes()?),
             b"state" => Command::State,
             b"listing" => Command::Listing,
@@ -167,7 +163,7 @@ fn put_fields<'a>(out: &mut Vec<u8>, mut bytes: &'a [u8], lengths: &[usize]) -> 
 fn put_record(out: &mut Vec<u8>, bytes: &[u8]) {
     out.push(b'>');
     let mut rest = put_fields(out, bytes, &[2, 1, 4, 1]);
-    if bytes.get(2) != Some(&4) {
+    if bytes.get(wire::KIND) != Some(&wire::ANSWER) {
         put_fields(out, rest, &[rest.len()]);
         return;
     }
@@ -177,50 +173,36 @@ fn put_record(out: &mut Vec<u8>, bytes: &[u8]) {
     }
 }
 
-/// Writes a line for each order.
-fn put_orders(out: &mut Vec<u8>, mut orders: &[u8]) {
-    while !orders.is_empty() {
-        orders = put_order(out, orders);
-    }
-}
-
-/// Writes the first order and gives those after it.
-fn put_order<'a>(out: &mut Vec<u8>, orders: &'a [u8]) -> &'a [u8] {
+/// Writes the line of an order.
+fn put_order(out: &mut Vec<u8>, order: &[u8]) {
+    let kind = order[wire::KIND];
+    let fields: &[usize] = if kind == wire::SET { &[1, 2, 1, 1, 1] } else { &[1] };
     out.push(b'<');
-    let data = put_fields(out, orders, &[2, 1, 4]);
-    let fields: &[usize] = match orders[2] {
-        1 => &[1],
-        2 => &[1, 2, 1, 1, 1],
-        5 | 6 => &[1],
-        _ => &[],
-    };
-    let pairs = if matches!(orders[2], 5 | 6) { 2 * data[0] as usize } else { 0 };
-    let length = fields.iter().sum::<usize>() + pairs;
-    let (data, rest) = data.split_at(length);
-    let mut left = put_fields(out, data, fields);
-    while !left.is_empty() {
-        left = put_fields(out, left, &[2]);
+    let data = put_fields(out, order, &[2, 1, 4]);
+    let mut pairs = put_fields(out, data, fields);
+    while !pairs.is_empty() {
+        pairs = put_fields(out, pairs, &[2]);
     }
     out.extend_from_slice(b"  ");
-    put_meaning(out, orders[2], data);
+    put_meaning(out, kind, data);
     out.push(b'\n');
-    rest
 }
 
 /// Writes an order in words.
 fn put_meaning(out: &mut Vec<u8>, kind: u8, data: &[u8]) {
     match (kind, data) {
-        (1, [position]) => put!(out, "ASK position {position}"),
-        (2, [position, high, low, block, old, new]) => put!(
+        (wire::ASK, [position]) => put!(out, "ASK position {position}"),
+        (wire::SET, [position, high, low, block, old, new]) => put!(
             out,
             "SET position {position} ({high:02X}{low:02X}): {block:02X}.{old:02X} becomes {block:02X}.{new:02X}"
         ),
-        (3, _) => put!(out, "OK: the registry stands"),
-        (4, _) => put!(out, "NOTOK: the registry is made anew"),
-        (5, [_, pairs @ ..]) => put_pairs(out, "NEW:", pairs),
-        (6, [_, pairs @ ..]) => put_pairs(out, "INVALID:", pairs),
-        (7, _) => put!(out, "WAIT SHORT: then DELAY asks the silent units"),
-        _ => put!(out, "WAIT LONG: then DELAY asks the silent units"),
+        (wire::OK, []) => put!(out, "OK: the registry stands"),
+        (wire::NOTOK, []) => put!(out, "NOTOK: the registry is made anew"),
+        (wire::NEW, [_, pairs @ ..]) => put_pairs(out, "NEW:", pairs),
+        (wire::INVALID, [_, pairs @ ..]) => put_pairs(out, "INVALID:", pairs),
+        (wire::WAIT_SHORT, []) => put!(out, "WAIT SHORT: then DELAY asks the silent units"),
+        (wire::WAIT_LONG, []) => put!(out, "WAIT LONG: then DELAY asks the silent units"),
+        _ => panic!("order kind {kind} has no words"),
     }
 }
 

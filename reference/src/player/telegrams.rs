@@ -1,10 +1,15 @@
 //! The bench of the telegrams.
 
 use super::{put, put_hex, put_refusal, Bench, Reason, Words};
-use crate::telegrams::{count, cut, Joining, MAX_MESSAGE};
+use crate::sizes::{BENCH_PAYLOAD, MAX_PAYLOAD};
+use crate::telegrams::{count, cut, Joining};
 
-const MAX_PAYLOAD: u32 = 70_000;
 const LINE_BYTES: usize = 32;
+
+/// The payload that the command `fill` makes.
+pub fn fill(length: usize, seed: u32) -> Vec<u8> {
+    (0..length).map(|i| (i * 31 + i / 256 * 7 + seed as usize) as u8).collect()
+}
 
 /// A payload, a join buffer and a join state.
 pub struct Telegrams {
@@ -16,7 +21,7 @@ pub struct Telegrams {
 
 pub enum Command {
     Payload(Vec<u8>),
-    Fill { length: u32, seed: u32 },
+    Fill { length: usize, seed: u32 },
     Count { l: u32 },
     Cut { l: u32, msg_id: u32, number: u32, room: u32 },
     CutAll { l: u32, msg_id: u32 },
@@ -28,16 +33,10 @@ impl Telegrams {
     pub fn new() -> Telegrams {
         Telegrams {
             payload: Vec::new(),
-            room: vec![0; MAX_PAYLOAD as usize],
-            buffer: vec![0; MAX_MESSAGE],
+            room: vec![0; BENCH_PAYLOAD],
+            buffer: vec![0; MAX_PAYLOAD],
             joining: Joining::fresh(),
         }
-    }
-
-    fn fill(&mut self, length: u32, seed: u32) {
-        let byte = |i: u64| ((i * 31 + i / 256 * 7 + u64::from(seed)) % 256) as u8;
-        self.payload.clear();
-        self.payload.extend((0..u64::from(length)).map(byte));
     }
 
     fn count(&self, l: u32, out: &mut Vec<u8>) {
@@ -62,7 +61,7 @@ impl Telegrams {
     fn cut_all(&mut self, l: u32, msg_id: u32, out: &mut Vec<u8>) {
         self.count(l, out);
         for number in 1..=count(l, &self.payload).unwrap_or(0) {
-            self.cut(l, msg_id, number, MAX_PAYLOAD, out);
+            self.cut(l, msg_id, number, BENCH_PAYLOAD as u32, out);
         }
     }
 
@@ -96,19 +95,21 @@ impl Bench for Telegrams {
         let any = u32::MAX;
         let command = match words.command() {
             b"payload" => Command::Payload(words.hex_bytes()?),
-            b"fill" => Command::Fill { length: words.decimal(MAX_PAYLOAD)?, seed: words.decimal(any)? },
+            b"fill" => {
+                Command::Fill { length: words.decimal(BENCH_PAYLOAD as u32)? as usize, seed: words.decimal(any)? }
+            }
             b"count" => Command::Count { l: words.decimal(any)? },
             b"cut" => Command::Cut {
                 l: words.decimal(any)?,
                 msg_id: words.hex_word(8)?,
                 number: words.decimal(any)?,
-                room: words.decimal(MAX_PAYLOAD)?,
+                room: words.decimal(BENCH_PAYLOAD as u32)?,
             },
             b"cutall" => Command::CutAll { l: words.decimal(any)?, msg_id: words.hex_word(8)? },
             b"rejoin" => Command::Rejoin,
             b"join" => Command::Join {
                 l: words.decimal(any)?,
-                room: words.decimal(MAX_MESSAGE as u32)?,
+                room: words.decimal(MAX_PAYLOAD as u32)?,
                 telegram: words.hex_bytes()?,
             },
             _ => return Err("unknown word"),
@@ -139,7 +140,7 @@ impl Bench for Telegrams {
     fn answer(&mut self, command: Command, out: &mut Vec<u8>) {
         match command {
             Command::Payload(bytes) => self.payload = bytes,
-            Command::Fill { length, seed } => self.fill(length, seed),
+            Command::Fill { length, seed } => self.payload = fill(length, seed),
             Command::Count { l } => self.count(l, out),
             Command::Cut { l, msg_id, number, room } => self.cut(l, msg_id, number, room, out),
             Command::CutAll { l, msg_id } => self.cut_all(l, msg_id, out),

@@ -1,15 +1,7 @@
 //! The writing of orders into lent room.
 
 use super::Pair;
-
-const ASK: u8 = 1;
-const SET: u8 = 2;
-const OK: u8 = 3;
-const NOTOK: u8 = 4;
-const NEW: u8 = 5;
-const INVALID: u8 = 6;
-const WAIT_SHORT: u8 = 7;
-const WAIT_LONG: u8 = 8;
+use crate::wire::{ASK, INVALID, NEW, NOTOK, OK, ORDER_MARK, SET, WAIT_LONG, WAIT_SHORT};
 
 /// Order room and how much of it is written.
 pub struct Orders<'a> {
@@ -32,8 +24,9 @@ impl<'a> Orders<'a> {
     }
 
     fn head(&mut self, kind: u8, pass: u32) {
-        let [p0, p1, p2, p3] = pass.to_be_bytes();
-        self.put([0x4D, 0x4F, kind, p0, p1, p2, p3]);
+        self.put(ORDER_MARK);
+        self.put([kind]);
+        self.put(pass.to_be_bytes());
     }
 
     pub fn ask(&mut self, pass: u32, position: u8) {

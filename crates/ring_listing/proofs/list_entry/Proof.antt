@@ -100,7 +100,7 @@ loop-again c =
     let at-pairs = at-len .before in
     let w = at-loop .loop .inv in
     let s = at-pairs .pairs .result in
-    (omega arith, omega (arith, w .1), simp length-set (w .2), simp length-set (w .3), simp length-set (w .4), simp length-set (w .5), w .6, w .7, stored-pair _ _ _ _ (pairs-here (s .blocks) (s .numbers) (w .6) (w .7) (s .count) (at-loop .loop .i) (omega (arith, at-len .len .ensures, at-loop-test .loop-test .taken))) (w .8))
+    (omega arith, omega (arith, w .1), simp length-set (w .2), simp length-set (w .3), simp length-set (w .4), simp length-set (w .5), w .6, w .7, stored-pair _ _ _ _ (pairs-here _ (s .blocks) (s .numbers) (w .6) (w .7) (s .count) (at-loop .loop .i) (omega (arith, at-len .len .ensures, at-loop-test .loop-test .taken))) (w .8))
 
 same-length : tie.Need-same-length Inv-loop μ-loop
 same-length c = c .before .loop .inv .2
@@ -125,7 +125,7 @@ returns c =
     let s = at-pairs .pairs .result in
     let x = start .args .position .0 in
     let e = start .args .entry in
-    let z = stored-end (ap (map (entry x (e .address .0))) (pairs-past (s .blocks) (s .numbers) (w .6) (w .7) (s .count) (at-loop .loop .i) (omega (arith, at-len .len .ensures, c .loop-test .left)))) (ap (map (entry x (e .address .0))) (at-pairs .pairs .ensures) ∙ sym (entries-kept x e)) (w .8) in
+    let z = stored-end (ap (map (entry x (e .address .0))) (pairs-past _ (s .blocks) (s .numbers) (w .6) (w .7) (s .count) (at-loop .loop .i) (omega (arith, at-len .len .ensures, c .loop-test .left)))) (ap (map (entry x (e .address .0))) (at-pairs .pairs .ensures) ∙ sym (entries-kept x e)) (w .8) in
     (omega (arith, at-len .len .ensures, w .0, w .1), z .0, z .1, z .2, z .3)
 
 pub list-entry-spec : {M : Type 1} → statement M

@@ -43,7 +43,7 @@ returns c =
     let start = at-len .before in
     let w = at-loop .loop .inv in
     let s = start .args .t1 in
-    sym (sym (w .3) ∙ any-here badBlock (pairs-here (s .blocks) (s .numbers) (w .1) (w .2) (s .count) (at-loop .loop .i) (omega (arith, at-len .len .ensures, at-loop-test .loop-test .taken))) (sym (at-is-bad-block .is-bad-block .ensures) ∙ c .if1 .taken))
+    sym (sym (w .3) ∙ any-here badBlock (pairs-here _ (s .blocks) (s .numbers) (w .1) (w .2) (s .count) (at-loop .loop .i) (omega (arith, at-len .len .ensures, at-loop-test .loop-test .taken))) (sym (at-is-bad-block .is-bad-block .ensures) ∙ c .if1 .taken))
 
 add-i : tie.Need-add-i Inv-loop μ-loop
 add-i c =
@@ -64,7 +64,7 @@ loop-again c =
     let start = at-len .before in
     let w = at-loop .loop .inv in
     let s = start .args .t1 in
-    (omega arith, w .1, w .2, any-skip badBlock (pairs-here (s .blocks) (s .numbers) (w .1) (w .2) (s .count) (at-loop .loop .i) (omega (arith, at-len .len .ensures, at-loop-test .loop-test .taken))) (sym (at-is-bad-block .is-bad-block .ensures) ∙ c .if1 .left) ∙ w .3)
+    (omega arith, w .1, w .2, any-skip badBlock (pairs-here _ (s .blocks) (s .numbers) (w .1) (w .2) (s .count) (at-loop .loop .i) (omega (arith, at-len .len .ensures, at-loop-test .loop-test .taken))) (sym (at-is-bad-block .is-bad-block .ensures) ∙ c .if1 .left) ∙ w .3)
 
 returns-2 : tie.Need-returns-2 Inv-loop μ-loop
 unfolding pairsOf
@@ -74,7 +74,7 @@ returns-2 c =
     let start = at-len .before in
     let w = at-loop .loop .inv in
     let s = start .args .t1 in
-    sym (sym (w .3) ∙ any-empty badBlock (pairs-past (s .blocks) (s .numbers) (w .1) (w .2) (s .count) (at-loop .loop .i) (omega (arith, at-len .len .ensures, c .loop-test .left))))
+    sym (sym (w .3) ∙ any-empty badBlock (pairs-past _ (s .blocks) (s .numbers) (w .1) (w .2) (s .count) (at-loop .loop .i) (omega (arith, at-len .len .ensures, c .loop-test .left))))
 
 pub has-bad-block-spec : {M : Type 1} → statement M
 has-bad-block-spec =

@@ -61,7 +61,7 @@ loop-again c =
     let w = at-loop .loop .inv in
     let p = at-loop .loop .pairs in
     let i = at-loop .loop .i in
-    (omega arith, simp length-set (w .1), simp length-set (w .2), read-on (pairsFrom i (p .blocks) (p .numbers)) _ (start .args .bytes .now) (11 + 2 * i) (11 + 2 * (i + 1)) (omega arith) (omega arith) (pairs-push (p .blocks) (p .numbers) (w .1) (w .2) i _ _ (omega arith)) (w .3))
+    (omega arith, simp length-set (w .1), simp length-set (w .2), read-on (pairsFrom i (p .blocks) (p .numbers)) _ (start .args .bytes .now) (11 + 2 * i) (11 + 2 * (i + 1)) (omega arith) (omega arith) (pairs-push _ (p .blocks) (p .numbers) (w .1) (w .2) i _ _ (omega arith)) (w .3))
 
 returns : tie.Need-returns Inv-loop μ-loop
 unfolding pairsOf

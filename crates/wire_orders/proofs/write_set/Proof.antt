@@ -1,118 +1,83 @@
 -- The head, then position, address and pair.
-use Rattle.rules.specs.Order.{SET, kindOf, bodyOf}
+use Prim.Native.Nat.{_+_, _≤_}
+use Rattle.rules.specs.Order.{Order, SET, kindOf, bodyOf}
 use Rattle.rules.specs.Event.{two}
 use Rattle.wire_orders.proofs.Bytes.{body-room, order-length, wrote-order, wrote-set}
 use borrow.Author.Needs.{needs}
-use lib.ListN.{length-set}
+use lib.ListN.{length, length-set}
 use mathlib.Core.Path.{_∙_}
 use native.Mathlib.Omega.{arith}
 use Rattle.wire_orders.proofs.write_set.Statement.{statement}
 use Rattle.wire_orders.proofs.write_set.Tie as tie
 
+-- the order, and the room behind its head, before and after the address is written
+abbrev order : tie.Start → Order
+order s = SET (s .args .position .0) (s .args .address .0) (s .args .block) (s .args .old) (s .args .new)
+
+module _ (w : tie.After-write-head) where
+  room : w .write-head .result + 6 ≤ length (w .write-head .last .0)
+  unfolding bodyOf two
+  room =
+      let start = w .before .before .before in
+      omega (arith, body-room (start .args .pass) (order start) (start .pre) (w .write-head .ensures), w .write-head .kept .0)
+
+module _ (v : tie.After-write2) where
+  abbrev at-head : tie.After-write-head
+  at-head = v .before .before .before .before .before
+
+  room-on : at-head .write-head .result + 6 ≤ length (v .write2 .last .0)
+  room-on = omega (arith, room at-head, simp length-set at (v .write2 .kept .0))
+
 write-head-requires : tie.Need-write-head-requires
 write-head-requires c κs =
     let start = c .before .before in
-    omega (arith, order-length (start .args .pass) (SET (start .args .position .0) (start .args .address .0) (start .args .block) (start .args .old) (start .args .new)))
+    omega (arith, order-length (start .args .pass) (order start))
 
 slice-write-out : tie.Need-slice-write-out
-unfolding bodyOf two
-slice-write-out c =
-    let at-write-head = c .before .before in
-    let start = at-write-head .before .before .before in
-    let r = body-room (start .args .pass) (SET (start .args .position .0) (start .args .address .0) (start .args .block) (start .args .old) (start .args .new)) (start .pre) (at-write-head .write-head .ensures) in
-    omega (arith, at-write-head .write-head .kept .0)
+slice-write-out c = omega (arith, room (c .before .before))
 
 add-write2 : tie.Need-add-write2
-unfolding bodyOf two
-add-write2 c =
-    let at-write-head = c .before .before .before in
-    let start = at-write-head .before .before .before in
-    let r = body-room (start .args .pass) (SET (start .args .position .0) (start .args .address .0) (start .args .block) (start .args .old) (start .args .new)) (start .pre) (at-write-head .write-head .ensures) in
-    omega (arith, at-write-head .write-head .kept .0)
+add-write2 c = omega (arith, room (c .before .before .before))
 
 cast-write2 : tie.Need-cast-write2
 cast-write2 c = search needs
 
 write2-requires : tie.Need-write2-requires
-unfolding bodyOf two
-write2-requires c κs =
-    let at-write-head = c .before .before .before .before in
-    let start = at-write-head .before .before .before in
-    let r = body-room (start .args .pass) (SET (start .args .position .0) (start .args .address .0) (start .args .block) (start .args .old) (start .args .new)) (start .pre) (at-write-head .write-head .ensures) in
-    simp length-set (omega (arith, at-write-head .write-head .kept .0))
+write2-requires c κs = simp length-set (omega (arith, room (c .before .before .before .before)))
 
 add-out : tie.Need-add-out
-unfolding bodyOf two
-add-out c =
-    let at-write-head = c .before .before .before .before .before .before .before in
-    let start = at-write-head .before .before .before in
-    let r = body-room (start .args .pass) (SET (start .args .position .0) (start .args .address .0) (start .args .block) (start .args .old) (start .args .new)) (start .pre) (at-write-head .write-head .ensures) in
-    omega (arith, at-write-head .write-head .kept .0)
+add-out c = omega (arith, room (at-head (c .before .before)))
 
 slice-write-out-2 : tie.Need-slice-write-out-2
-unfolding bodyOf two
-slice-write-out-2 c =
-    let at-write2 = c .before .before in
-    let at-write-head = at-write2 .before .before .before .before .before in
-    let start = at-write-head .before .before .before in
-    let r = body-room (start .args .pass) (SET (start .args .position .0) (start .args .address .0) (start .args .block) (start .args .old) (start .args .new)) (start .pre) (at-write-head .write-head .ensures) in
-    omega (arith, at-write-head .write-head .kept .0, simp length-set at (at-write2 .write2 .kept .0))
+slice-write-out-2 c = omega (arith, room-on (c .before .before))
 
 add-out-2 : tie.Need-add-out-2
-unfolding bodyOf two
-add-out-2 c =
-    let at-write-head = c .before .before .before .before .before .before .before in
-    let start = at-write-head .before .before .before in
-    let r = body-room (start .args .pass) (SET (start .args .position .0) (start .args .address .0) (start .args .block) (start .args .old) (start .args .new)) (start .pre) (at-write-head .write-head .ensures) in
-    omega (arith, at-write-head .write-head .kept .0)
+add-out-2 c = omega (arith, room (at-head (c .before .before)))
 
 slice-write-out-3 : tie.Need-slice-write-out-3
-unfolding bodyOf two
-slice-write-out-3 c =
-    let at-write2 = c .before .before in
-    let at-write-head = at-write2 .before .before .before .before .before in
-    let start = at-write-head .before .before .before in
-    let r = body-room (start .args .pass) (SET (start .args .position .0) (start .args .address .0) (start .args .block) (start .args .old) (start .args .new)) (start .pre) (at-write-head .write-head .ensures) in
-    simp length-set (omega (arith, at-write-head .write-head .kept .0, simp length-set at (at-write2 .write2 .kept .0)))
+slice-write-out-3 c = simp length-set (omega (arith, room-on (c .before .before)))
 
 add-out-3 : tie.Need-add-out-3
-unfolding bodyOf two
-add-out-3 c =
-    let at-write-head = c .before .before .before .before .before .before .before in
-    let start = at-write-head .before .before .before in
-    let r = body-room (start .args .pass) (SET (start .args .position .0) (start .args .address .0) (start .args .block) (start .args .old) (start .args .new)) (start .pre) (at-write-head .write-head .ensures) in
-    omega (arith, at-write-head .write-head .kept .0)
+add-out-3 c = omega (arith, room (at-head (c .before .before)))
 
 slice-write-out-4 : tie.Need-slice-write-out-4
-unfolding bodyOf two
-slice-write-out-4 c =
-    let at-write2 = c .before .before in
-    let at-write-head = at-write2 .before .before .before .before .before in
-    let start = at-write-head .before .before .before in
-    let r = body-room (start .args .pass) (SET (start .args .position .0) (start .args .address .0) (start .args .block) (start .args .old) (start .args .new)) (start .pre) (at-write-head .write-head .ensures) in
-    simp length-set (omega (arith, at-write-head .write-head .kept .0, simp length-set at (at-write2 .write2 .kept .0)))
+slice-write-out-4 c = simp length-set (omega (arith, room-on (c .before .before)))
 
 add-result : tie.Need-add-result
-unfolding bodyOf two
-add-result c =
-    let at-write-head = c .before .before .before .before .before .before .before in
-    let start = at-write-head .before .before .before in
-    let r = body-room (start .args .pass) (SET (start .args .position .0) (start .args .address .0) (start .args .block) (start .args .old) (start .args .new)) (start .pre) (at-write-head .write-head .ensures) in
-    omega (arith, at-write-head .write-head .kept .0)
+add-result c = omega (arith, room (at-head (c .before .before)))
 
 same-length : tie.Need-same-length
 same-length c =
     let at-write2 = c .before .before in
-    let at-write-head = at-write2 .before .before .before .before .before in
-    simp length-set (simp length-set at (at-write2 .write2 .kept .0) ∙ at-write-head .write-head .kept .0)
+    simp length-set (simp length-set at (at-write2 .write2 .kept .0) ∙ at-head at-write2 .write-head .kept .0)
 
 returns : tie.Need-returns
 unfolding kindOf bodyOf
 returns c =
     let at-write2 = c .before .before in
-    let at-write-head = at-write2 .before .before .before .before .before in
+    let at-write-head = at-head at-write2 in
     let start = at-write-head .before .before .before in
-    wrote-order (start .args .pass) (SET (start .args .position .0) (start .args .address .0) (start .args .block) (start .args .old) (start .args .new)) (at-write-head .write-head .ensures) (wrote-set _ _ _ _ _ _ _ (at-write2 .write2 .ensures))
+    wrote-order (start .args .pass) (order start) (at-write-head .write-head .ensures) (wrote-set _ _ _ _ _ _ _ (at-write2 .write2 .ensures))
 
 pub write-set-spec : {M : Type 1} → statement M
 write-set-spec =

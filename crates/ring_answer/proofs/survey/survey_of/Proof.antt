@@ -1,6 +1,5 @@
 -- What was seen or marked so far, and what is left to look at, are the whole.
 use Prim.Native.Nat.{_-_, _<_, _≤_, min}
-use Rattle.ring_entries.specs.Tests.{keepsAtLimit}
 use Rattle.laws.specs.Lists.{any, collect}
 use Rattle.laws.specs.Views.{any-end}
 use Rattle.wire_pairs.specs.View.{pairsOf}
@@ -21,7 +20,7 @@ use Rattle.ring_answer.proofs.survey.survey_of.Statement.{statement}
 use Rattle.ring_answer.proofs.survey.survey_of.Tie as tie
 
 abbrev Inv-loop : tie.InvT-loop
-Inv-loop count seat address announced entries n claims₀ marks₀ i₀ claims marks i = (i ≤ n) × (length entries ≡ maxUnits) × ((claims .barred || any (bars (address .0)) (drop i (beside seat (rowsOf count entries)))) ≡ any (bars (address .0)) (beside seat (rowsOf count entries))) × ((claims .kept || any (keeps (address .0)) (drop i (beside seat (rowsOf count entries)))) ≡ any (keeps (address .0)) (beside seat (rowsOf count entries))) × ((claims .limit || any (keepsAtLimit (address .0)) (drop i (beside seat (rowsOf count entries)))) ≡ any (keepsAtLimit (address .0)) (beside seat (rowsOf count entries))) × (orEach marks (map (holds (collect pairsIn (drop i (beside seat (rowsOf count entries))))) (pairsOf announced)) ≡ orEach (replicate maxPairs false) (map (holds (collect pairsIn (beside seat (rowsOf count entries)))) (pairsOf announced)))
+Inv-loop count seat address announced entries n claims₀ marks₀ i₀ claims marks i = (i ≤ n) × (length entries ≡ maxUnits) × ((claims .barred || any (bars (address .0)) (drop i (beside seat (rowsOf count entries)))) ≡ any (bars (address .0)) (beside seat (rowsOf count entries))) × ((claims .kept || any (keeps (address .0)) (drop i (beside seat (rowsOf count entries)))) ≡ any (keeps (address .0)) (beside seat (rowsOf count entries))) × (orEach marks (map (holds (collect pairsIn (drop i (beside seat (rowsOf count entries))))) (pairsOf announced)) ≡ orEach (replicate maxPairs false) (map (holds (collect pairsIn (beside seat (rowsOf count entries)))) (pairsOf announced)))
 
 abbrev μ-loop : tie.MeasureT-loop
 μ-loop count seat address announced entries n claims₀ marks₀ i₀ claims marks i = n - i
@@ -30,7 +29,7 @@ clamp-requires : tie.Need-clamp-requires Inv-loop μ-loop
 clamp-requires c κs = search needs
 
 loop-holds : tie.Need-loop-holds Inv-loop μ-loop
-loop-holds c = (omega arith, search needs, refl, refl, refl, refl)
+loop-holds c = (omega arith, search needs, refl, refl, refl)
 
 mul-seen-at : tie.Need-mul-seen-at Inv-loop μ-loop
 mul-seen-at c =
@@ -80,8 +79,7 @@ loop-again c =
       w .1,
       seen-on (bars a) (at-loop .loop .claims .barred) here (at-with .with .ensures .0) (w .2),
       seen-on (keeps a) (at-loop .loop .claims .kept) here (at-with .with .ensures .1) (w .3),
-      seen-on (keepsAtLimit a) (at-loop .loop .claims .limit) here (at-with .with .ensures .2) (w .4),
-      held-on (at-loop .loop .marks) (pairsOf (start .args .announced)) here (at-pairs .pairs .ensures) (c .mark-held .ensures) (w .5),
+      held-on (at-loop .loop .marks) (pairsOf (start .args .announced)) here (at-pairs .pairs .ensures) (c .mark-held .ensures) (w .4),
     )
 
 returns : tie.Need-returns Inv-loop μ-loop
@@ -92,12 +90,12 @@ returns c =
     let w = at-loop .loop .inv in
     let a = start .args .address .0 in
     let l : min (start .args .count) maxUnits ≤ at-loop .loop .i = omega (arith, at-clamp .clamp .ensures, c .loop-test .left) in
-    let past = beside-past (start .args .count) (at-loop .loop .i) (start .args .seat) (start .args .t2) (w .1) l in (
-      any-end (bars a) (at-loop .loop .claims .barred) past (w .2),
-      any-end (keeps a) (at-loop .loop .claims .kept) past (w .3),
-      any-end (keepsAtLimit a) (at-loop .loop .claims .limit) past (w .4),
-      held-end (at-loop .loop .marks) (pairsOf (start .args .announced)) past (w .5),
-    )
+    let past = beside-past (start .args .count) (at-loop .loop .i) (start .args .seat) (start .args .t2) (w .1) l in
+    record {
+      barred = any-end (bars a) (at-loop .loop .claims .barred) past (w .2);
+      kept = any-end (keeps a) (at-loop .loop .claims .kept) past (w .3);
+      held = held-end (at-loop .loop .marks) (pairsOf (start .args .announced)) past (w .4);
+    }
 
 pub survey-of-spec : {M : Type 1} → statement M
 survey-of-spec =

@@ -1,5 +1,5 @@
 -- By the limit.
-use Rattle.ring_entries.specs.Tests.{struck}
+use Rattle.ring_entries.specs.Verdicts.{struck}
 use Rattle.rules.specs.Step.{ignored}
 use borrow.Author.Needs.{needs}
 use mathlib.Core.Path.{_∙_, ap}

@@ -1,5 +1,5 @@
 -- What was counted so far, and what is left to count, are all.
-use Prim.Native.Nat.{_+_, _-_, _≤_}
+use Prim.Native.Nat.{_-_, _+_, _≤_}
 use Rattle.ring_entries.proofs.Loops.{count-end, count-on}
 use Rattle.laws.specs.Lists.{select}
 use Rattle.row_entry.proofs.Arrays.{rows-here, rows-past}

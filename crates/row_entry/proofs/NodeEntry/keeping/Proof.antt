@@ -19,7 +19,7 @@ returns : tie.Need-returns
 unfolding rowOf pairsOf
 returns c =
     let start = c .before .before .before in
-    let e = ap (λ (k : ℕ). pairsFrom k (start .args .pairs .blocks) (start .args .pairs .numbers)) (c .len .ensures) ∙ pairs-min (start .args .pairs .blocks) (start .args .pairs .numbers) (search needs) (search needs) (start .args .pairs .count) in (λ i. record { status = statusOf (start .args .status) (start .args .address .0) (e i) (start .args .place) (start .args .tries); bad = start .args .bad; silences = 0 })
+    let e = ap (λ (k : ℕ). pairsFrom k (start .args .pairs .blocks) (start .args .pairs .numbers)) (c .len .ensures) ∙ pairs-min _ (start .args .pairs .blocks) (start .args .pairs .numbers) (search needs) (search needs) (start .args .pairs .count) in (λ i. record { status = statusOf (start .args .status) (start .args .address .0) (e i) (start .args .place) (start .args .tries); bad = start .args .bad; silences = 0 })
 
 pub keeping-spec : {M : Type 1} → statement M
 keeping-spec = tie.close (tie.spec len-requires cast-t11 returns)

@@ -74,7 +74,7 @@ loop-again c =
     let at-loop = at-loop-test .before in
     let at-len = at-loop .before in
     let start = at-len .before in
-    let w = at-loop .loop .inv in let s = start .args .t3 in let l : at-loop .loop .i < min (s .count) maxPairs = omega (arith, at-len .len .ensures, at-loop-test .loop-test .taken) in (omega arith, w .1, w .2, or-on (holds (pairsOf (start .args .kept))) (at-loop .loop .i) _ (pairOf 0 0) (at-loop .loop .marks) (pairsOf s) (omega (arith, pairs-length (s .blocks) (s .numbers) (w .1) (w .2) (s .count))) (c .either .ensures ∙ ap (λ (b : Bool). getD (at-loop .loop .marks) (at-loop .loop .i) _ || b) (at-holds .holds .ensures ∙ ap (holds (pairsOf (start .args .kept))) (sym (pairs-at (s .blocks) (s .numbers) (w .1) (w .2) (s .count) (at-loop .loop .i) (pairOf 0 0) l)))) (w .3))
+    let w = at-loop .loop .inv in let s = start .args .t3 in let l : at-loop .loop .i < min (s .count) maxPairs = omega (arith, at-len .len .ensures, at-loop-test .loop-test .taken) in (omega arith, w .1, w .2, or-on (holds (pairsOf (start .args .kept))) (at-loop .loop .i) _ (pairOf 0 0) (at-loop .loop .marks) (pairsOf s) (omega (arith, pairs-length _ (s .blocks) (s .numbers) (w .1) (w .2) (s .count))) (c .either .ensures ∙ ap (λ (b : Bool). getD (at-loop .loop .marks) (at-loop .loop .i) _ || b) (at-holds .holds .ensures ∙ ap (holds (pairsOf (start .args .kept))) (sym (pairs-at _ (s .blocks) (s .numbers) (w .1) (w .2) (s .count) (at-loop .loop .i) (pairOf 0 0) l)))) (w .3))
 
 returns : tie.Need-returns Inv-loop μ-loop
 unfolding pairsOf
@@ -82,7 +82,7 @@ returns c =
     let at-loop = c .before in
     let at-len = at-loop .before in
     let start = at-len .before in
-    let w = at-loop .loop .inv in let s = start .args .t3 in or-end (holds (pairsOf (start .args .kept))) (at-loop .loop .i) (at-loop .loop .marks) (pairsOf s) (omega (arith, pairs-length (s .blocks) (s .numbers) (w .1) (w .2) (s .count), at-len .len .ensures, c .loop-test .left)) (w .3)
+    let w = at-loop .loop .inv in let s = start .args .t3 in or-end (holds (pairsOf (start .args .kept))) (at-loop .loop .i) (at-loop .loop .marks) (pairsOf s) (omega (arith, pairs-length _ (s .blocks) (s .numbers) (w .1) (w .2) (s .count), at-len .len .ensures, c .loop-test .left)) (w .3)
 
 pub mark-held-spec : {M : Type 1} → statement M
 mark-held-spec =

@@ -73,7 +73,7 @@ loop-again c =
     let end = at-loop .loop .end in
     let i = at-loop .loop .i in
     let l : i < maxPairs = omega (arith, at-len .len .ensures, at-loop-test .loop-test .taken) in
-    (omega arith, omega (arith, w .1, c .one-if .ensures .1), w .2, w .3, w .4, simp length-set (w .5), simp length-set (w .6), goods-on (pairsFrom end (k .blocks) (k .numbers)) _ (judged-at (s .blocks) (s .numbers) (w .3) (w .4) (s .count) i g (omega (arith, at-len .len .ensures, at-loop-test .loop-test .taken)) (omega (arith, w .2))) (pairs-next (k .blocks) (k .numbers) (w .5) (w .6) (getD g i false) end _ _ (omega (arith, w .1)) (c .one-if .ensures .0)) (w .7))
+    (omega arith, omega (arith, w .1, c .one-if .ensures .1), w .2, w .3, w .4, simp length-set (w .5), simp length-set (w .6), goods-on (pairsFrom end (k .blocks) (k .numbers)) _ (judged-at (s .blocks) (s .numbers) (w .3) (w .4) (s .count) i g (omega (arith, at-len .len .ensures, at-loop-test .loop-test .taken)) (omega (arith, w .2))) (pairs-next _ (k .blocks) (k .numbers) (w .5) (w .6) (getD g i false) end _ _ (omega (arith, w .1)) (c .one-if .ensures .0)) (w .7))
 
 returns : tie.Need-returns Inv-loop μ-loop
 unfolding pairsOf

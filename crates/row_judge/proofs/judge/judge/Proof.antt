@@ -66,7 +66,7 @@ loop-again c =
     let at-loop = at-loop-test .before in
     let at-len = at-loop .before in
     let start = at-len .before in
-    let w = at-loop .loop .inv in let s = start .args .t2 in let n = pairs-length (s .blocks) (s .numbers) (w .3) (w .4) (s .count) in let l : at-loop .loop .i < min (s .count) maxPairs = omega (arith, at-len .len .ensures, at-loop-test .loop-test .taken) in (omega arith, simp length-set (w .1), w .2, w .3, w .4, judge-on (start .args .t1) (pairsOf s) (at-loop .loop .i) (pairOf 0 0) _ (at-loop .loop .good) (omega arith) (omega (arith, w .2)) (omega (arith, w .1)) (c .is-good .ensures ∙ ap (isGoodMarked (getD (start .args .t1) (at-loop .loop .i) _) (take (at-loop .loop .i) (pairsOf s))) (sym (pairs-at (s .blocks) (s .numbers) (w .3) (w .4) (s .count) (at-loop .loop .i) (pairOf 0 0) l))) (w .5))
+    let w = at-loop .loop .inv in let s = start .args .t2 in let n = pairs-length _ (s .blocks) (s .numbers) (w .3) (w .4) (s .count) in let l : at-loop .loop .i < min (s .count) maxPairs = omega (arith, at-len .len .ensures, at-loop-test .loop-test .taken) in (omega arith, simp length-set (w .1), w .2, w .3, w .4, judge-on (start .args .t1) (pairsOf s) (at-loop .loop .i) (pairOf 0 0) _ (at-loop .loop .good) (omega arith) (omega (arith, w .2)) (omega (arith, w .1)) (c .is-good .ensures ∙ ap (isGoodMarked (getD (start .args .t1) (at-loop .loop .i) _) (take (at-loop .loop .i) (pairsOf s))) (sym (pairs-at _ (s .blocks) (s .numbers) (w .3) (w .4) (s .count) (at-loop .loop .i) (pairOf 0 0) l))) (w .5))
 
 returns : tie.Need-returns Inv-loop μ-loop
 unfolding pairsOf
@@ -74,7 +74,7 @@ returns c =
     let at-loop = c .before in
     let at-len = at-loop .before in
     let start = at-len .before in
-    let w = at-loop .loop .inv in let s = start .args .t2 in judge-end (start .args .t1) (pairsOf s) (at-loop .loop .i) (at-loop .loop .good) (omega (arith, pairs-length (s .blocks) (s .numbers) (w .3) (w .4) (s .count), at-len .len .ensures, c .loop-test .left)) (w .5)
+    let w = at-loop .loop .inv in let s = start .args .t2 in judge-end (start .args .t1) (pairsOf s) (at-loop .loop .i) (at-loop .loop .good) (omega (arith, pairs-length _ (s .blocks) (s .numbers) (w .3) (w .4) (s .count), at-len .len .ensures, c .loop-test .left)) (w .5)
 
 pub judge-spec : {M : Type 1} → statement M
 judge-spec =

@@ -73,7 +73,7 @@ loop-again c =
     let at-loop = at-loop-test .before in
     let at-len = at-loop .before in
     let start = at-len .before .before in
-    let w = at-loop .loop .inv in let s = start .args .t2 in let a = pairOf (getD (s .blocks) (at-loop .loop .i) 0) (getD (s .numbers) (at-loop .loop .i) 0) in let z = at-place-of .place-of .ensures .0 in (omega arith, w .1, w .2, w .3, left-on (numbersOf (start .args .block) (a ∷ [])) (numbers-pair (start .args .block) (pairs-here (s .blocks) (s .numbers) (w .2) (w .3) (s .count) (at-loop .loop .i) (omega (arith, at-len .len .ensures, at-loop-test .loop-test .taken)))) (added-at (at-loop .loop .table) (start .args .block) (getD (s .blocks) (at-loop .loop .i) 0) (getD (s .numbers) (at-loop .loop .i) 0) z (omega (arith, at-place-of .place-of .ensures .1, w .1, w .4 .full)) (c .marked .ensures)) (w .4))
+    let w = at-loop .loop .inv in let s = start .args .t2 in let a = pairOf (getD (s .blocks) (at-loop .loop .i) 0) (getD (s .numbers) (at-loop .loop .i) 0) in let z = at-place-of .place-of .ensures .0 in (omega arith, w .1, w .2, w .3, left-on (numbersOf (start .args .block) (a ∷ [])) (numbers-pair (start .args .block) (pairs-here _ (s .blocks) (s .numbers) (w .2) (w .3) (s .count) (at-loop .loop .i) (omega (arith, at-len .len .ensures, at-loop-test .loop-test .taken)))) (added-at (at-loop .loop .table) (start .args .block) (getD (s .blocks) (at-loop .loop .i) 0) (getD (s .numbers) (at-loop .loop .i) 0) z (omega (arith, at-place-of .place-of .ensures .1, w .1, w .4 .full)) (c .marked .ensures)) (w .4))
 
 same-length : tie.Need-same-length Inv-loop μ-loop
 same-length c =
@@ -86,7 +86,7 @@ returns c =
     let at-loop = c .before in
     let at-len = at-loop .before in
     let start = at-len .before .before in
-    let w = at-loop .loop .inv in let s = start .args .t2 in left-end (numbers-none (start .args .block) (pairs-past (s .blocks) (s .numbers) (w .2) (w .3) (s .count) (at-loop .loop .i) (omega (arith, at-len .len .ensures, c .loop-test .left)))) (w .4)
+    let w = at-loop .loop .inv in let s = start .args .t2 in left-end (numbers-none (start .args .block) (pairs-past _ (s .blocks) (s .numbers) (w .2) (w .3) (s .count) (at-loop .loop .i) (omega (arith, at-len .len .ensures, c .loop-test .left)))) (w .4)
 
 pub mark-pairs-spec : {M : Type 1} → statement M
 mark-pairs-spec =

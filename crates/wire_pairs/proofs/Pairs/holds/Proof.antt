@@ -46,7 +46,7 @@ returns c =
     let at-loop = at-loop-test .before in
     let at-len = at-loop .before in
     let start = at-len .before in
-    let w = at-loop .loop .inv in let s = start .args .t1 in sym (sym (w .3) ∙ any-here (samePair _) (pairs-here (s .blocks) (s .numbers) (w .1) (w .2) (s .count) (at-loop .loop .i) (omega (arith, at-len .len .ensures, at-loop-test .loop-test .taken))) (sym (at-same .same .ensures) ∙ c .if1 .taken))
+    let w = at-loop .loop .inv in let s = start .args .t1 in sym (sym (w .3) ∙ any-here (samePair _) (pairs-here _ (s .blocks) (s .numbers) (w .1) (w .2) (s .count) (at-loop .loop .i) (omega (arith, at-len .len .ensures, at-loop-test .loop-test .taken))) (sym (at-same .same .ensures) ∙ c .if1 .taken))
 
 add-i : tie.Need-add-i Inv-loop μ-loop
 add-i c =
@@ -65,7 +65,7 @@ loop-again c =
     let at-loop = at-loop-test .before in
     let at-len = at-loop .before in
     let start = at-len .before in
-    let w = at-loop .loop .inv in let s = start .args .t1 in (omega arith, w .1, w .2, any-skip (samePair _) (pairs-here (s .blocks) (s .numbers) (w .1) (w .2) (s .count) (at-loop .loop .i) (omega (arith, at-len .len .ensures, at-loop-test .loop-test .taken))) (sym (at-same .same .ensures) ∙ c .if1 .left) ∙ w .3)
+    let w = at-loop .loop .inv in let s = start .args .t1 in (omega arith, w .1, w .2, any-skip (samePair _) (pairs-here _ (s .blocks) (s .numbers) (w .1) (w .2) (s .count) (at-loop .loop .i) (omega (arith, at-len .len .ensures, at-loop-test .loop-test .taken))) (sym (at-same .same .ensures) ∙ c .if1 .left) ∙ w .3)
 
 returns-2 : tie.Need-returns-2 Inv-loop μ-loop
 unfolding holds pairsOf
@@ -73,7 +73,7 @@ returns-2 c =
     let at-loop = c .before in
     let at-len = at-loop .before in
     let start = at-len .before in
-    let w = at-loop .loop .inv in let s = start .args .t1 in sym (sym (w .3) ∙ any-empty (samePair _) (pairs-past (s .blocks) (s .numbers) (w .1) (w .2) (s .count) (at-loop .loop .i) (omega (arith, at-len .len .ensures, c .loop-test .left))))
+    let w = at-loop .loop .inv in let s = start .args .t1 in sym (sym (w .3) ∙ any-empty (samePair _) (pairs-past _ (s .blocks) (s .numbers) (w .1) (w .2) (s .count) (at-loop .loop .i) (omega (arith, at-len .len .ensures, c .loop-test .left))))
 
 pub holds-spec : {M : Type 1} → statement M
 holds-spec =

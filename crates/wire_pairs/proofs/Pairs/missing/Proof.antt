@@ -69,7 +69,7 @@ loop-again c =
     let l = at-loop .loop .left in
     let end = at-loop .loop .end in
     let i = at-loop .loop .i in
-    (omega arith, omega (arith, w .1, c .one-if .ensures .1), w .2, w .3, simp length-set (w .4), simp length-set (w .5), missing-on (pairsFrom end (l .blocks) (l .numbers)) _ (pairsOf (start .args .other)) (pairs-here (s .blocks) (s .numbers) (w .2) (w .3) (s .count) i (omega (arith, at-len .len .ensures, at-loop-test .loop-test .taken))) (at-lacks .lacks .ensures) (pairs-next (l .blocks) (l .numbers) (w .4) (w .5) (at-lacks .lacks .result) end _ _ (omega (arith, at-len .len .ensures, at-loop-test .loop-test .taken, w .1)) (c .one-if .ensures .0)) (w .6))
+    (omega arith, omega (arith, w .1, c .one-if .ensures .1), w .2, w .3, simp length-set (w .4), simp length-set (w .5), missing-on (pairsFrom end (l .blocks) (l .numbers)) _ (pairsOf (start .args .other)) (pairs-here _ (s .blocks) (s .numbers) (w .2) (w .3) (s .count) i (omega (arith, at-len .len .ensures, at-loop-test .loop-test .taken))) (at-lacks .lacks .ensures) (pairs-next _ (l .blocks) (l .numbers) (w .4) (w .5) (at-lacks .lacks .result) end _ _ (omega (arith, at-len .len .ensures, at-loop-test .loop-test .taken, w .1)) (c .one-if .ensures .0)) (w .6))
 
 returns : tie.Need-returns Inv-loop μ-loop
 unfolding pairsOf
@@ -80,7 +80,7 @@ returns c =
     let w = at-loop .loop .inv in
     let s = start .args .t1 in
     let l = at-loop .loop .left in
-    missing-end (pairsFrom (at-loop .loop .end) (l .blocks) (l .numbers)) (pairsOf (start .args .other)) (pairs-past (s .blocks) (s .numbers) (w .2) (w .3) (s .count) (at-loop .loop .i) (omega (arith, at-len .len .ensures, c .loop-test .left))) (w .6)
+    missing-end (pairsFrom (at-loop .loop .end) (l .blocks) (l .numbers)) (pairsOf (start .args .other)) (pairs-past _ (s .blocks) (s .numbers) (w .2) (w .3) (s .count) (at-loop .loop .i) (omega (arith, at-len .len .ensures, c .loop-test .left))) (w .6)
 
 pub missing-spec : {M : Type 1} → statement M
 missing-spec =

@@ -1,20 +1,69 @@
--- By the counts.
-use Prim.Native.Nat.{_≤_}
-use Rattle.registry.proofs.Conflicts.{conflict-9, conflict-others, conflict-own, conflict-restart}
+-- By the limit, then by the pass.
+use Prim.Native.Nat.{ℕ, _<_, _≤_}
+use Rattle.registry.proofs.Conflicts.{conflict-9, conflict-limit, conflict-restart}
 use Rattle.registry.proofs.Doing.{along, refuses}
+use Rattle.registry.proofs.Places.{inside}
+use Rattle.registry.specs.Outcome.{conflictOutcome, ignoreOutcome, restartOutcome}
+use Rattle.registry.specs.View.{viewOf}
+use Rattle.registry.specs.declared.image.RegistryImage.{RegistryImage}
+use Rattle.ring_entries.specs.Verdicts.{verdictOf}
+use Rattle.rules.specs.House.{maxPass}
 use Rattle.rules.specs.Run.{Outcome, written}
-use Rattle.rules.specs.Step.{atLimit}
+use Rattle.rules.specs.Step.{Verdict}
 use borrow.Author.Needs.{needs}
 use lib.ListN.{length}
-use mathlib.Core.Path.{_∙_, ap, subst, sym}
+use mathlib.Core.Bool.{true, false}
+use mathlib.Core.Path.{_≡_, subst}
 use Rattle.registry.proofs.image.RegistryImage.conflict.Statement.{statement}
 use Rattle.registry.proofs.image.RegistryImage.conflict.Tie as tie
+
+-- once the limit is known: the call, the picture, and what the rules make of the conflict
+abbrev startOf : tie.After-reaches-limit → tie.Start
+startOf l = l .before .before .before .before .before
+
+abbrev image : tie.After-reaches-limit → RegistryImage
+image l = startOf l .args .self
+
+abbrev position : tie.After-reaches-limit → ℕ
+position l = startOf l .args .position .0
+
+abbrev address : tie.After-reaches-limit → ℕ
+address l = startOf l .args .address .0
+
+abbrev verdict : tie.After-reaches-limit → Verdict
+verdict l = verdictOf (startOf l .args .verdict)
+
+module _ (l : tie.After-reaches-limit) where
+  ignores : l .reaches-limit .result ≡ true → conflictOutcome (verdict l) (viewOf (image l)) (position l) (address l) ≡ ignoreOutcome (verdict l) (viewOf (image l)) (position l) (address l)
+  ignores = conflict-limit (image l) (position l) (startOf l .pre .0) (address l) (verdict l) (l .reaches-limit .ensures)
+
+  restarts : l .reaches-limit .result ≡ false → image l .pass < maxPass
+      → conflictOutcome (verdict l) (viewOf (image l)) (position l) (address l) ≡ restartOutcome (verdict l) (viewOf (image l)) (position l) (address l)
+  restarts = conflict-restart (image l) (position l) (startOf l .pre .0) (address l) (verdict l) (l .reaches-limit .ensures)
+
+  -- the room that the call has is enough for what the conflict comes to
+  room : {o : Outcome} → conflictOutcome (verdict l) (viewOf (image l)) (position l) (address l) ≡ o → length (written o) ≤ length (startOf l .args .out .now)
+  room e = subst (λ (o : Outcome). length (written o) ≤ length (startOf l .args .out .now)) e (startOf l .pre .2)
+
+cast-i : tie.Need-cast-i
+cast-i c = search needs
+
+sub-i : tie.Need-sub-i
+sub-i c = search needs
+
+cast-reaches-limit : tie.Need-cast-reaches-limit
+cast-reaches-limit c = search needs
+
+reaches-limit-requires : tie.Need-reaches-limit-requires
+reaches-limit-requires c κs =
+    let start = c .before .before .before .before in
+    inside (start .args .self) (start .args .position .0) (start .pre .0)
 
 ignore-requires : tie.Need-ignore-requires
 ignore-requires c κs =
     let at-if1 = c .before in
-    let start = at-if1 .before .before in
-    (start .pre .0, start .pre .1, subst (λ (o : Outcome). length (written o) ≤ length (start .args .out .now)) (conflict-others (start .args .t1) (start .args .position .0) (start .pre .0) (start .args .address .0) (start .args .shared) (start .pre .2) (at-if1 .if1 .taken)) (start .pre .3))
+    let l = at-if1 .before in
+    (startOf l .pre .0, startOf l .pre .1, room l (ignores l (at-if1 .if1 .taken)))
 
 same-length : tie.Need-same-length
 same-length c = search needs
@@ -23,102 +72,49 @@ returns : tie.Need-returns
 returns c =
     let at-ignore = c .before .before in
     let at-if1 = at-ignore .before .before in
-    let start = at-if1 .before .before in
-    along (conflict-others (start .args .t1) (start .args .position .0) (start .pre .0) (start .args .address .0) (start .args .shared) (start .pre .2) (at-if1 .if1 .taken)) (at-ignore .ignore .ensures)
-
-cast-i : tie.Need-cast-i
-cast-i c = search needs
-
-sub-i : tie.Need-sub-i
-sub-i c = search needs
-
-mul-entry : tie.Need-mul-entry
-mul-entry c = search needs
-
-element-copy-out-entry : tie.Need-element-copy-out-entry
-element-copy-out-entry c = search needs
-
-counted-requires : tie.Need-counted-requires
-counted-requires c κs = search needs
-
-at-limit-requires : tie.Need-at-limit-requires
-at-limit-requires c κs = search needs
-
-ignore-requires-2 : tie.Need-ignore-requires-2
-ignore-requires-2 c κs =
-    let at-if2 = c .before in
-    let at-at-limit = at-if2 .before in
-    let at-counted = at-at-limit .before in
-    let start = at-counted .before .before .before .before .before in
-    (start .pre .0, start .pre .1, subst (λ (o : Outcome). length (written o) ≤ length (start .args .out .now)) (conflict-own (start .args .t1) (start .args .position .0) (start .pre .0) (start .args .address .0) (start .args .shared) (start .pre .2) _ (sym (at-at-limit .at-limit .ensures ∙ ap atLimit (at-counted .counted .ensures)) ∙ at-if2 .if2 .taken)) (start .pre .3))
-
-same-length-2 : tie.Need-same-length-2
-same-length-2 c = search needs
-
-returns-2 : tie.Need-returns-2
-returns-2 c =
-    let at-ignore2 = c .before .before in
-    let at-if2 = at-ignore2 .before .before in
-    let at-at-limit = at-if2 .before in
-    let at-counted = at-at-limit .before in
-    let start = at-counted .before .before .before .before .before in
-    along (conflict-own (start .args .t1) (start .args .position .0) (start .pre .0) (start .args .address .0) (start .args .shared) (start .pre .2) _ (sym (at-at-limit .at-limit .ensures ∙ ap atLimit (at-counted .counted .ensures)) ∙ at-if2 .if2 .taken)) (at-ignore2 .ignore2 .ensures)
+    along (ignores (at-if1 .before) (at-if1 .if1 .taken)) (at-ignore .ignore .ensures)
 
 refuse-requires : tie.Need-refuse-requires
 refuse-requires c κs = search needs
 
-returns-3 : tie.Need-returns-3
-returns-3 c =
-    let at-if3 = c .before in
-    let at-if2 = at-if3 .before in
-    let at-at-limit = at-if2 .before in
-    let at-counted = at-at-limit .before in
-    let at-if1 = at-counted .before .before .before in
-    let start = at-if1 .before .before in
-    refuses (start .args .out .now) 9 (conflict-9 (start .args .t1) (start .args .position .0) (start .pre .0) (start .args .address .0) (start .args .shared) (start .pre .2) _ (at-if1 .if1 .left) (sym (at-at-limit .at-limit .ensures ∙ ap atLimit (at-counted .counted .ensures)) ∙ at-if2 .if2 .left) (at-if3 .if3 .taken)) (c .refuse .ensures)
+returns-2 : tie.Need-returns-2
+returns-2 c =
+    let at-if2 = c .before in
+    let at-if1 = at-if2 .before .before in
+    let l = at-if1 .before in
+    let e = conflict-9 (image l) (position l) (startOf l .pre .0) (address l) (verdict l) (l .reaches-limit .ensures) (at-if1 .if1 .left) (at-if2 .if2 .taken) in
+    refuses (startOf l .args .out .now) 9 e (c .refuse .ensures)
 
 restart-requires : tie.Need-restart-requires
 restart-requires c κs =
-    let at-if3 = c .before in
-    let at-if2 = at-if3 .before in
-    let at-at-limit = at-if2 .before in
-    let at-counted = at-at-limit .before in
-    let at-if1 = at-counted .before .before .before in
-    let start = at-if1 .before .before in
-    (start .pre .0, at-if3 .if3 .left, subst (λ (o : Outcome). length (written o) ≤ length (start .args .out .now)) (conflict-restart (start .args .t1) (start .args .position .0) (start .pre .0) (start .args .address .0) (start .args .shared) (start .pre .2) _ (at-if1 .if1 .left) (sym (at-at-limit .at-limit .ensures ∙ ap atLimit (at-counted .counted .ensures)) ∙ at-if2 .if2 .left) (at-if3 .if3 .left)) (start .pre .3))
+    let at-if2 = c .before in
+    let at-if1 = at-if2 .before .before in
+    let l = at-if1 .before in
+    (startOf l .pre .0, at-if2 .if2 .left, room l (restarts l (at-if1 .if1 .left) (at-if2 .if2 .left)))
 
-same-length-3 : tie.Need-same-length-3
-same-length-3 c = search needs
+same-length-2 : tie.Need-same-length-2
+same-length-2 c = search needs
 
-returns-4 : tie.Need-returns-4
-returns-4 c =
+returns-3 : tie.Need-returns-3
+returns-3 c =
     let at-restart = c .before .before in
-    let at-if3 = at-restart .before .before in
-    let at-if2 = at-if3 .before in
-    let at-at-limit = at-if2 .before in
-    let at-counted = at-at-limit .before in
-    let at-if1 = at-counted .before .before .before in
-    let start = at-if1 .before .before in
-    along (conflict-restart (start .args .t1) (start .args .position .0) (start .pre .0) (start .args .address .0) (start .args .shared) (start .pre .2) _ (at-if1 .if1 .left) (sym (at-at-limit .at-limit .ensures ∙ ap atLimit (at-counted .counted .ensures)) ∙ at-if2 .if2 .left) (at-if3 .if3 .left)) (at-restart .restart .ensures)
+    let at-if2 = at-restart .before .before in
+    let at-if1 = at-if2 .before .before in
+    along (restarts (at-if1 .before) (at-if1 .if1 .left) (at-if2 .if2 .left)) (at-restart .restart .ensures)
 
 pub conflict-spec : {M : Type 1} → statement M
 conflict-spec =
     tie.close
     (tie.spec
+    cast-i
+    sub-i
+    cast-reaches-limit
+    reaches-limit-requires
     ignore-requires
     same-length
     returns
-    cast-i
-    sub-i
-    mul-entry
-    element-copy-out-entry
-    counted-requires
-    at-limit-requires
-    ignore-requires-2
-    same-length-2
-    returns-2
     refuse-requires
-    returns-3
+    returns-2
     restart-requires
-    same-length-3
-    returns-4)
+    same-length-2
+    returns-3)

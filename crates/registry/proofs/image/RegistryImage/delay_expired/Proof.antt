@@ -49,18 +49,18 @@ write-asks-requires c κs =
     let start = at-if1 .before .before .before in
     let p = viewOf (start .args .self) in subst (λ (n : ℕ). 0 + length (encodeAll n (asks isSilent 1 (p .rows))) ≤ length (start .args .out .now)) (sym (at-if1 .if1 .left)) (omega (arith, front-room p (delayEnds p) (delays p (start .args .pass) (at-if1 .if1 .left) (ap not (ne-eqb _ _ (at-if2 .if2 .left)))) (delay-front p) refl (start .args .out .now) (start .pre)))
 
-all-asked-requires : tie.Need-all-asked-requires
-all-asked-requires c κs = search needs
+all-changed-requires : tie.Need-all-changed-requires
+all-changed-requires c κs = search needs
 
 finish-requires : tie.Need-finish-requires
 unfolding viewOf runs delayEnds
 finish-requires c κs =
-    let at-all-asked = c .before in
-    let at-write-asks = at-all-asked .before .before .before in
+    let at-all-changed = c .before in
+    let at-write-asks = at-all-changed .before .before .before in
     let at-if2 = at-write-asks .before .before .before .before in
     let at-if1 = at-if2 .before .before .before in
     let start = at-if1 .before .before .before in
-    let p = viewOf (start .args .self) in end-room p (delayEnds p) (delays p (start .args .pass) (at-if1 .if1 .left) (ap not (ne-eqb _ _ (at-if2 .if2 .left)))) (delay-front p) (λ i. record { state = p .state; pass = p .pass; size = p .size; delay = false; rows = at-all-asked .all-asked .ensures i }) (start .args .out .now) (wrote-along (ap (λ (n : ℕ). encodeAll n (asks isSilent 1 (p .rows))) (at-if1 .if1 .left)) (at-write-asks .write-asks .ensures)) (start .pre)
+    let p = viewOf (start .args .self) in end-room p (delayEnds p) (delays p (start .args .pass) (at-if1 .if1 .left) (ap not (ne-eqb _ _ (at-if2 .if2 .left)))) (delay-front p) (λ i. record { state = p .state; pass = p .pass; size = p .size; delay = false; rows = at-all-changed .all-changed .ensures i }) (start .args .out .now) (wrote-along (ap (λ (n : ℕ). encodeAll n (asks isSilent 1 (p .rows))) (at-if1 .if1 .left)) (at-write-asks .write-asks .ensures)) (start .pre)
 
 same-length : tie.Need-same-length
 same-length c = search needs
@@ -69,12 +69,12 @@ returns-3 : tie.Need-returns-3
 unfolding viewOf runs delayEnds
 returns-3 c =
     let at-finish = c .before .before in
-    let at-all-asked = at-finish .before .before in
-    let at-write-asks = at-all-asked .before .before .before in
+    let at-all-changed = at-finish .before .before in
+    let at-write-asks = at-all-changed .before .before .before in
     let at-if2 = at-write-asks .before .before .before .before in
     let at-if1 = at-if2 .before .before .before in
     let start = at-if1 .before .before .before in
-    let p = viewOf (start .args .self) in done p (delayEnds p) (delays p (start .args .pass) (at-if1 .if1 .left) (ap not (ne-eqb _ _ (at-if2 .if2 .left)))) (delay-front p) (λ i. record { state = p .state; pass = p .pass; size = p .size; delay = false; rows = at-all-asked .all-asked .ensures i }) (start .args .out .now) (wrote-along (ap (λ (n : ℕ). encodeAll n (asks isSilent 1 (p .rows))) (at-if1 .if1 .left)) (at-write-asks .write-asks .ensures)) (at-finish .finish .ensures)
+    let p = viewOf (start .args .self) in done p (delayEnds p) (delays p (start .args .pass) (at-if1 .if1 .left) (ap not (ne-eqb _ _ (at-if2 .if2 .left)))) (delay-front p) (λ i. record { state = p .state; pass = p .pass; size = p .size; delay = false; rows = at-all-changed .all-changed .ensures i }) (start .args .out .now) (wrote-along (ap (λ (n : ℕ). encodeAll n (asks isSilent 1 (p .rows))) (at-if1 .if1 .left)) (at-write-asks .write-asks .ensures)) (at-finish .finish .ensures)
 
 pub delay-expired-spec : {M : Type 1} → statement M
 delay-expired-spec =
@@ -86,7 +86,7 @@ delay-expired-spec =
     returns-2
     cast-units
     write-asks-requires
-    all-asked-requires
+    all-changed-requires
     finish-requires
     same-length
     returns-3)

@@ -1,5 +1,5 @@
 -- The two limits.
-use Rattle.registry.proofs.Stepping.{reached-fresh}
+use Rattle.registry.proofs.Stepping.{handed-fresh}
 use Rattle.registry.specs.View.{makeAnswer, viewOf}
 use Rattle.rules.specs.Picture.{fresh, legalSize}
 use borrow.Author.Needs.{needs}
@@ -19,7 +19,7 @@ unfolding makeAnswer fresh legalSize
 returns c =
     let at-if1 = c .before in
     let start = at-if1 .before in
-    let e : viewOf (c .stopped .result) ≡ fresh (start .args .l) = simp (lt-leb _ _ (at-if1 .if1 .taken)) (c .stopped .ensures) in (simp (lt-leb _ _ (at-if1 .if1 .taken)) refl, e, reached-fresh (start .args .l) e)
+    let e : viewOf (c .stopped .result) ≡ fresh (start .args .l) = simp (lt-leb _ _ (at-if1 .if1 .taken)) (c .stopped .ensures) in (simp (lt-leb _ _ (at-if1 .if1 .taken)) refl, e, handed-fresh _ (start .args .l) e)
 
 cast-stopped-2 : tie.Need-cast-stopped-2
 cast-stopped-2 c = search needs
@@ -33,7 +33,7 @@ returns-2 c =
     let at-if2 = c .before in
     let at-if1 = at-if2 .before in
     let start = at-if1 .before in
-    let e : viewOf (c .stopped2 .result) ≡ fresh (start .args .l) = simp (le-leb _ _ (at-if1 .if1 .left), lt-leb _ _ (at-if2 .if2 .taken)) (c .stopped2 .ensures) in (simp (le-leb _ _ (at-if1 .if1 .left), lt-leb _ _ (at-if2 .if2 .taken)) refl, e, reached-fresh (start .args .l) e)
+    let e : viewOf (c .stopped2 .result) ≡ fresh (start .args .l) = simp (le-leb _ _ (at-if1 .if1 .left), lt-leb _ _ (at-if2 .if2 .taken)) (c .stopped2 .ensures) in (simp (le-leb _ _ (at-if1 .if1 .left), lt-leb _ _ (at-if2 .if2 .taken)) refl, e, handed-fresh _ (start .args .l) e)
 
 cast-stopped-3 : tie.Need-cast-stopped-3
 cast-stopped-3 c = search needs
@@ -47,7 +47,7 @@ returns-3 c =
     let at-if2 = c .before in
     let at-if1 = at-if2 .before in
     let start = at-if1 .before in
-    let e : viewOf (c .stopped3 .result) ≡ fresh (start .args .l) = simp (le-leb _ _ (at-if1 .if1 .left), le-leb _ _ (at-if2 .if2 .left)) (c .stopped3 .ensures) in (simp (le-leb _ _ (at-if1 .if1 .left), le-leb _ _ (at-if2 .if2 .left)) refl, e, reached-fresh (start .args .l) e)
+    let e : viewOf (c .stopped3 .result) ≡ fresh (start .args .l) = simp (le-leb _ _ (at-if1 .if1 .left), le-leb _ _ (at-if2 .if2 .left)) (c .stopped3 .ensures) in (simp (le-leb _ _ (at-if1 .if1 .left), le-leb _ _ (at-if2 .if2 .left)) refl, e, handed-fresh _ (start .args .l) e)
 
 pub fresh-spec : {M : Type 1} → statement M
 fresh-spec =

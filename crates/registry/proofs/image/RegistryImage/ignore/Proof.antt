@@ -1,20 +1,48 @@
 -- What is told of the entries, then the ending.
-use Rattle.ring_entries.specs.Tests.{countsFor, struck}
+use Rattle.ring_entries.specs.Verdicts.{countsFor, struck, verdictOf}
 use Rattle.registry.proofs.Doing.{done, end-room, front-room}
-use Rattle.registry.proofs.Places.{put-counted}
+use Rattle.registry.proofs.Places.{counted-at, inside}
 use Rattle.registry.proofs.Telling.{told-rows}
 use Rattle.ring_tell.specs.Told.{rowsTold}
-use Rattle.ring_state.specs.State.{runs, stateOf}
+use Rattle.ring_state.specs.State.{stateOf}
 use Rattle.registry.specs.View.{viewOf}
-use Rattle.rules.specs.Picture.{seatAt, withRows}
+use Rattle.registry.specs.declared.image.RegistryImage.{RegistryImage}
+use Rattle.row_entry.specs.View.{rowsOf}
+use Rattle.rules.specs.Ending.{told}
+use Rattle.rules.specs.Picture.{Row, seatAt, withRows}
 use Rattle.rules.specs.Step.{changeRows, onCounted}
 use borrow.Author.Needs.{needs}
 use mathlib.Core.Bool.{true}
-use mathlib.Core.List.{append-nil}
-use mathlib.Core.Path.{_∙_, ap, refl, sym}
-use native.Mathlib.Omega.{arith}
+use mathlib.Core.List.{List, [], _++_, append-nil}
+use mathlib.Core.Path.{_≡_, _∙_, ap, refl, sym}
 use Rattle.registry.proofs.image.RegistryImage.ignore.Statement.{statement}
 use Rattle.registry.proofs.image.RegistryImage.ignore.Tie as tie
+
+-- once the entries are counted: the call, the picture, and its rows afterwards
+abbrev startOf : tie.After-all-counted → tie.Start
+startOf w = w .before .before .before .before .before
+
+abbrev image : tie.After-all-counted → RegistryImage
+image w = startOf w .args .self
+
+abbrev rowsAfter : tie.After-all-counted → List Row
+rowsAfter w = let args = startOf w .args in
+    onCounted (countsFor (verdictOf (args .verdict)) (args .address .0)) (struck true (args .address .0)) (seatAt (viewOf (image w) .rows) (args .position .0))
+
+module _ (w : tie.After-all-counted) where
+  counted-rows : rowsOf (image w .units) (w .all-counted .result) ≡ rowsAfter w
+  unfolding viewOf
+  counted-rows = counted-at (image w) (startOf w .args .position .0) (startOf w .pre .0) _ _ (w .all-counted .ensures)
+
+  told-all : told (viewOf (image w)) (withRows (rowsAfter w) (viewOf (image w))) ++ []
+      ≡ rowsTold (stateOf (image w .state .0)) (image w .size) (viewOf (image w) .rows) (rowsOf (image w .units) (w .all-counted .result))
+  unfolding viewOf
+  told-all =
+      append-nil _ ∙ told-rows (viewOf (image w)) _
+      ∙ ap (rowsTold (stateOf (image w .state .0)) (image w .size) (viewOf (image w) .rows)) (sym counted-rows)
+
+  left : withRows (rowsOf (image w .units) (w .all-counted .result)) (viewOf (image w)) ≡ withRows (rowsAfter w) (viewOf (image w))
+  left = ap (λ (rs : List Row). withRows rs (viewOf (image w))) counted-rows
 
 cast-i : tie.Need-cast-i
 cast-i c = search needs
@@ -25,44 +53,25 @@ sub-i c = search needs
 cast-units : tie.Need-cast-units
 cast-units c = search needs
 
-all-struck-requires : tie.Need-all-struck-requires
-all-struck-requires c κs = search needs
-
-mul-strike : tie.Need-mul-strike
-mul-strike c = search needs
-
-array-copy-out-strike : tie.Need-array-copy-out-strike
-array-copy-out-strike c =
-    let start = c .before .before .before .before .before in
-    omega (arith, start .pre .0 .last)
-
-strike-requires : tie.Need-strike-requires
-strike-requires c κs = search needs
-
-mul-after : tie.Need-mul-after
-mul-after c = search needs
-
-array-set-from-after : tie.Need-array-set-from-after
-array-set-from-after c =
-    let start = c .before .before .before .before .before .before .before in
-    omega (arith, start .pre .0 .last)
+all-counted-requires : tie.Need-all-counted-requires
+all-counted-requires c κs =
+    let start = c .before .before .before .before in
+    inside (start .args .self) (start .args .position .0) (start .pre .0)
 
 tell-entries-requires : tie.Need-tell-entries-requires
 unfolding viewOf changeRows withRows
 tell-entries-requires c κs =
-    let at-strike = c .before .before in
-    let at-all-struck = at-strike .before .before in
-    let start = at-all-struck .before .before .before .before .before in
-    (start .pre .1, front-room (viewOf (start .args .self)) (changeRows (onCounted (countsFor (start .args .shared) (start .args .address .0)) (struck true (start .args .address .0)) (seatAt (viewOf (start .args .self) .rows) (start .args .position .0))) (viewOf (start .args .self))) refl (append-nil _ ∙ told-rows (viewOf (start .args .self)) _ ∙ ap (rowsTold (stateOf ((start .args .self) .state .0)) ((start .args .self) .size) (viewOf (start .args .self) .rows)) (sym (put-counted (start .args .self) (start .args .position .0) (start .pre .0) (start .args .shared) true (start .args .address .0) _ (at-strike .strike .result) (at-all-struck .all-struck .result) (at-all-struck .all-struck .ensures) (at-strike .strike .ensures)))) refl (start .args .out .now) (start .pre .2))
+    let w = c .before .before in
+    let start = startOf w in
+    (start .pre .1, front-room (viewOf (image w)) (changeRows (rowsAfter w) (viewOf (image w))) refl (told-all w) refl (start .args .out .now) (start .pre .2))
 
 finish-requires : tie.Need-finish-requires
 unfolding viewOf changeRows withRows
 finish-requires c κs =
     let at-tell-entries = c .before .before .before in
-    let at-strike = at-tell-entries .before .before .before in
-    let at-all-struck = at-strike .before .before in
-    let start = at-all-struck .before .before .before .before .before in
-    end-room (viewOf (start .args .self)) (changeRows (onCounted (countsFor (start .args .shared) (start .args .address .0)) (struck true (start .args .address .0)) (seatAt (viewOf (start .args .self) .rows) (start .args .position .0))) (viewOf (start .args .self))) refl (append-nil _ ∙ told-rows (viewOf (start .args .self)) _ ∙ ap (rowsTold (stateOf ((start .args .self) .state .0)) ((start .args .self) .size) (viewOf (start .args .self) .rows)) (sym (put-counted (start .args .self) (start .args .position .0) (start .pre .0) (start .args .shared) true (start .args .address .0) _ (at-strike .strike .result) (at-all-struck .all-struck .result) (at-all-struck .all-struck .ensures) (at-strike .strike .ensures)))) (λ i. record { state = stateOf ((start .args .self) .state .0); pass = (start .args .self) .pass; size = (start .args .self) .size; delay = runs ((start .args .self) .delay .0); rows = (put-counted (start .args .self) (start .args .position .0) (start .pre .0) (start .args .shared) true (start .args .address .0) _ (at-strike .strike .result) (at-all-struck .all-struck .result) (at-all-struck .all-struck .ensures) (at-strike .strike .ensures)) i }) (start .args .out .now) (at-tell-entries .tell-entries .ensures) (start .pre .2)
+    let w = at-tell-entries .before .before .before in
+    let start = startOf w in
+    end-room (viewOf (image w)) (changeRows (rowsAfter w) (viewOf (image w))) refl (told-all w) (left w) (start .args .out .now) (at-tell-entries .tell-entries .ensures) (start .pre .2)
 
 same-length : tie.Need-same-length
 same-length c = search needs
@@ -72,10 +81,9 @@ unfolding viewOf changeRows withRows
 returns c =
     let at-finish = c .before .before in
     let at-tell-entries = at-finish .before .before .before .before in
-    let at-strike = at-tell-entries .before .before .before in
-    let at-all-struck = at-strike .before .before in
-    let start = at-all-struck .before .before .before .before .before in
-    done (viewOf (start .args .self)) (changeRows (onCounted (countsFor (start .args .shared) (start .args .address .0)) (struck true (start .args .address .0)) (seatAt (viewOf (start .args .self) .rows) (start .args .position .0))) (viewOf (start .args .self))) refl (append-nil _ ∙ told-rows (viewOf (start .args .self)) _ ∙ ap (rowsTold (stateOf ((start .args .self) .state .0)) ((start .args .self) .size) (viewOf (start .args .self) .rows)) (sym (put-counted (start .args .self) (start .args .position .0) (start .pre .0) (start .args .shared) true (start .args .address .0) _ (at-strike .strike .result) (at-all-struck .all-struck .result) (at-all-struck .all-struck .ensures) (at-strike .strike .ensures)))) (λ i. record { state = stateOf ((start .args .self) .state .0); pass = (start .args .self) .pass; size = (start .args .self) .size; delay = runs ((start .args .self) .delay .0); rows = (put-counted (start .args .self) (start .args .position .0) (start .pre .0) (start .args .shared) true (start .args .address .0) _ (at-strike .strike .result) (at-all-struck .all-struck .result) (at-all-struck .all-struck .ensures) (at-strike .strike .ensures)) i }) (start .args .out .now) (at-tell-entries .tell-entries .ensures) (at-finish .finish .ensures)
+    let w = at-tell-entries .before .before .before in
+    let start = startOf w in
+    done (viewOf (image w)) (changeRows (rowsAfter w) (viewOf (image w))) refl (told-all w) (left w) (start .args .out .now) (at-tell-entries .tell-entries .ensures) (at-finish .finish .ensures)
 
 pub ignore-spec : {M : Type 1} → statement M
 ignore-spec =
@@ -84,12 +92,7 @@ ignore-spec =
     cast-i
     sub-i
     cast-units
-    all-struck-requires
-    mul-strike
-    array-copy-out-strike
-    strike-requires
-    mul-after
-    array-set-from-after
+    all-counted-requires
     tell-entries-requires
     finish-requires
     same-length

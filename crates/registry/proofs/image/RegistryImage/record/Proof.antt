@@ -1,5 +1,6 @@
 -- 1, then 2 to 4, then 5 to 8, then the event's own step.
 use Prim.Native.Nat.{ℕ, _≤_}
+use Rattle.ring_answer.proofs.Hearing.{hears-conflict, hears-reply}
 use Rattle.ring_answer.specs.Hearing.{Hears, answered}
 use Rattle.row_entry.specs.View.{rowsOf}
 use Rattle.wire_address.specs.declared.LogicalNodeAddress.{LogicalNodeAddress}
@@ -14,7 +15,7 @@ use Rattle.registry.proofs.Doing.{refuses}
 use Rattle.registry.proofs.Places.{mapped-length}
 use Rattle.registry.proofs.Refusing.{answer-taken, late-at, next-place, none-late, none-taken, place-below, place-row, refused-late}
 use Rattle.registry.proofs.Stepping.{fits, reached-size, recorded, refusal-same, step-1, step-refused, step-taken, well-formed}
-use Rattle.registry.specs.Outcome.{Does, Reached, Seat, WellFormed, replyOutcome, respondTo}
+use Rattle.registry.specs.Outcome.{Does, HandedOut, Seat, WellFormed, replyOutcome, respondTo}
 use Rattle.registry.specs.View.{viewOf}
 use Rattle.registry.specs.declared.image.RegistryImage.{RegistryImage}
 use Rattle.registry.specs.declared.record.Recorded.{Recorded}
@@ -64,7 +65,7 @@ module _ (r : tie.After-decode) where
   fits-at : {o : Outcome} → outcome r ≡ o → length (written o) ≤ length (lent r)
   fits-at w = fits (image r) (startOf r .pre) (given r) (lent r) (r .before .if1 .left) w
 
-  recorded-at : {o : Outcome} {s : Recorded} {d : List ℕ} → outcome r ≡ o → Does (image r) o (lent r) s d → Does (image r) (outcome r) (lent r) s d × Reached (viewOf (s .picture))
+  recorded-at : {o : Outcome} {s : Recorded} {d : List ℕ} → outcome r ≡ o → Does (image r) o (lent r) s d → Does (image r) (outcome r) (lent r) s d × HandedOut (s .picture)
   recorded-at w k = recorded (image r) (startOf r .pre) (given r) (lent r) w k
 
   formed : {f : Event} → eventIn r ≡ f → WellFormed (eventOf f (announced r))
@@ -256,19 +257,23 @@ hear-requires c κs =
     let s = image (readFor v) in
     let x = positionIn v in
     let t = heard-at v in
-    (place-below s x (t .0) (t .1), place-row s x (t .0) (t .1) _ ∙ ap (λ (n : ℕ). seatAt (rowsOf (s .units) (s .entries)) n .row) (sym (next-place s x (t .0) (t .1))))
+    place-below s x (t .0) (t .1)
+
+conflicts-requires : tie.Need-conflicts-requires
+conflicts-requires c κs = search needs
 
 conflict-requires : tie.Need-conflict-requires
 unfolding viewOf
 conflict-requires c κs =
     let at-if4 = c .before in
-    let at-hear = at-if4 .before in
+    let at-conflicts = at-if4 .before in
+    let at-hear = at-conflicts .before in
     let v = answerAt at-hear in
     let r = readFor v in
     let s = image r in
     let t = heard-at v in
-    let whole = t .2 ∙ ap (concluded (viewOf s)) (hears-at at-hear .conflicts (at-if4 .if4 .taken) (positionIn v) (viewOf s)) in
-    (t .0, reached-size (viewOf s) (startOf r .pre), hears-at at-hear .limits (at-if4 .if4 .taken), fits-at r whole)
+    let whole = t .2 ∙ ap (concluded (viewOf s)) (hears-conflict (hears-at at-hear) (positionIn v) (viewOf s) (sym (at-conflicts .conflicts .ensures) ∙ at-if4 .if4 .taken)) in
+    (t .0, reached-size (viewOf s) (startOf r .pre .reached), fits-at r whole)
 
 same-length : tie.Need-same-length
 same-length c = search needs
@@ -278,25 +283,27 @@ unfolding viewOf
 returns-4 c =
     let at-call = c .before .before in
     let at-if4 = at-call .before .before in
-    let at-hear = at-if4 .before in
+    let at-conflicts = at-if4 .before in
+    let at-hear = at-conflicts .before in
     let v = answerAt at-hear in
     let r = readFor v in
     let s = image r in
     let t = heard-at v in
-    let whole = t .2 ∙ ap (concluded (viewOf s)) (hears-at at-hear .conflicts (at-if4 .if4 .taken) (positionIn v) (viewOf s)) in
+    let whole = t .2 ∙ ap (concluded (viewOf s)) (hears-conflict (hears-at at-hear) (positionIn v) (viewOf s) (sym (at-conflicts .conflicts .ensures) ∙ at-if4 .if4 .taken)) in
     recorded-at r whole (at-call .conflict .ensures)
 
 reply-requires : tie.Need-reply-requires
 unfolding viewOf
 reply-requires c κs =
     let at-if4 = c .before .before in
-    let at-hear = at-if4 .before in
+    let at-conflicts = at-if4 .before in
+    let at-hear = at-conflicts .before in
     let v = answerAt at-hear in
     let r = readFor v in
     let s = image r in
     let t = heard-at v in
-    let whole = t .2 ∙ ap (concluded (viewOf s)) (hears-at at-hear .replies (at-if4 .if4 .left) (positionIn v) (viewOf s)) in
-    (t .0, reached-size (viewOf s) (startOf r .pre), fits-at r whole)
+    let whole = t .2 ∙ ap (concluded (viewOf s)) (hears-reply (hears-at at-hear) (positionIn v) (viewOf s) (sym (at-conflicts .conflicts .ensures) ∙ at-if4 .if4 .left)) in
+    (t .0, reached-size (viewOf s) (startOf r .pre .reached), fits-at r whole)
 
 enum-known-event-4 : tie.Need-enum-known-event-4
 enum-known-event-4 c = search needs
@@ -317,7 +324,7 @@ reply-requires-2 c κs =
     let t = silent-at (k .before) (k .if3 .left) (g .0 .0) (g .0 .1 .0) (g .1) in
     let own = at-silenced .silenced .ensures ∙ ap silenced (place-row s x (t .0) (t .1) _) in
     let whole = t .2 ∙ ap (λ (n : Row). replyOutcome (viewOf s) x 0 n finished) (sym own) in
-    (t .0, reached-size (viewOf s) (startOf r .pre), fits-at r whole)
+    (t .0, reached-size (viewOf s) (startOf r .pre .reached), fits-at r whole)
 
 enum-known-event-5 : tie.Need-enum-known-event-5
 enum-known-event-5 c = search needs
@@ -381,12 +388,13 @@ unfolding viewOf
 returns-9 c =
     let at-call = c .before .before in
     let at-if4 = at-call .before .before .before in
-    let at-hear = at-if4 .before in
+    let at-conflicts = at-if4 .before in
+    let at-hear = at-conflicts .before in
     let v = answerAt at-hear in
     let r = readFor v in
     let s = image r in
     let t = heard-at v in
-    let whole = t .2 ∙ ap (concluded (viewOf s)) (hears-at at-hear .replies (at-if4 .if4 .left) (positionIn v) (viewOf s)) in
+    let whole = t .2 ∙ ap (concluded (viewOf s)) (hears-reply (hears-at at-hear) (positionIn v) (viewOf s) (sym (at-conflicts .conflicts .ensures) ∙ at-if4 .if4 .left)) in
     recorded-at r whole (at-call .reply .ensures)
 
 same-length-6 : tie.Need-same-length-6
@@ -447,6 +455,7 @@ record-spec =
     enum-known-event-3
     cast-hear
     hear-requires
+    conflicts-requires
     conflict-requires
     same-length
     returns-4

@@ -17,21 +17,13 @@ keeps-requires c κs = search needs
 either-requires-2 : tie.Need-either-requires-2
 either-requires-2 c κs = search needs
 
-keeps-at-limit-requires : tie.Need-keeps-at-limit-requires
-keeps-at-limit-requires c κs = search needs
-
-either-requires-3 : tie.Need-either-requires-3
-either-requires-3 c κs = search needs
-
 returns : tie.Need-returns
 returns c =
-    let at-keeps-at-limit = c .before in
-    let at-either2 = at-keeps-at-limit .before in
-    let at-keeps = at-either2 .before in
+    let at-keeps = c .before in
     let at-either = at-keeps .before in
     let at-bars = at-either .before in
     let start = at-bars .before in
-    (at-either .either .ensures ∙ ap (λ (b : Bool). start .args .self .barred || b) (at-bars .bars .ensures), at-either2 .either2 .ensures ∙ ap (λ (b : Bool). start .args .self .kept || b) (at-keeps .keeps .ensures), c .either3 .ensures ∙ ap (λ (b : Bool). start .args .self .limit || b) (at-keeps-at-limit .keeps-at-limit .ensures))
+    (at-either .either .ensures ∙ ap (λ (b : Bool). start .args .self .barred || b) (at-bars .bars .ensures), c .either2 .ensures ∙ ap (λ (b : Bool). start .args .self .kept || b) (at-keeps .keeps .ensures))
 
 pub with-spec : {M : Type 1} → statement M
 with-spec =
@@ -41,6 +33,4 @@ with-spec =
     either-requires
     keeps-requires
     either-requires-2
-    keeps-at-limit-requires
-    either-requires-3
     returns)

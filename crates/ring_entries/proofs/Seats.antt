@@ -1,16 +1,18 @@
 -- The row of a position between the others: as one row of the list, stored to, taken out, or counted with the others.
-use Prim.Native.Nat.{ℕ, zero, suc, _<_}
+use Prim.Native.Nat.{ℕ, zero, suc, _<_, min}
 use mathlib.Core.Path.{_≡_, refl, sym, _∙_, ap}
 use mathlib.Core.Bool.{Bool, false, cond, _||_}
 use mathlib.Core.List.{List, [], _∷_, _++_, map}
 use native.Mathlib.Nat.{not-suc-le-zero, le-of-suc-le-suc}
+use native.Mathlib.Omega.{arith}
 use lib.ListN.{length, getD, set, take, drop}
 use Rattle.laws.specs.Lists.{any, collect}
+use Rattle.rules.specs.House.{maxUnits}
 use Rattle.rules.specs.Picture.{Row, noRow, keptBy, pairsOf, pairsIn, Seat, seatAt, others, put}
 use Rattle.rules.specs.Step.{onCounted}
 use Rattle.row_entry.specs.declared.NodeEntry.{NodeEntry}
 use Rattle.row_entry.specs.View.{rowOf, rowsOf}
-use Rattle.row_entry.proofs.Arrays.{rows-set}
+use Rattle.row_entry.proofs.Arrays.{rows-length, rows-at, rows-set}
 
 module _ {A : Type 0} where
   put-at : (i : ℕ) (a : A) (xs : List A) → i < length xs → take i xs ++ a ∷ drop (suc i) xs ≡ set xs i a
@@ -67,3 +69,7 @@ pub pairs-beside : (k : ℕ) (es : List NodeEntry) (i : ℕ) → i < length (row
 unfolding pairsIn noRow pairsOf keptBy
 pairs-beside k es i l b none =
     ap (collect pairsIn) (rows-set k i b es ∙ ap (set (rowsOf k es) i) none) ∙ sym (seat-pairs (rowsOf k es) i refl l noRow refl)
+
+-- the row in the seat is the entry's
+pub seat-own : (k i : ℕ) (es : List NodeEntry) → length es ≡ maxUnits → i < min k maxUnits → (d : NodeEntry) → rowOf (getD es i d) ≡ seatAt (rowsOf k es) (suc i) .row
+seat-own k i es full l d = sym (seat-row (rowsOf k es) i refl (omega (arith, l, rows-length es full k)) ∙ rows-at es full k i d noRow l)

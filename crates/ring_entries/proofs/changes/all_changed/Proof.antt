@@ -4,20 +4,20 @@ use Rattle.ring_entries.proofs.Loops.{change-end, change-on}
 use Rattle.laws.specs.Views.{mapFrom}
 use Rattle.row_entry.specs.View.{rowsOf}
 use Rattle.rules.specs.House.{maxUnits}
-use Rattle.rules.specs.Step.{emptied}
+use Rattle.ring_entries.specs.Changes.{changeOf}
 use borrow.Author.Needs.{needs}
 use lib.ListN.{length, length-set}
 use mathlib.Core.List.{map}
 use mathlib.Core.Path.{_≡_, refl}
 use native.Mathlib.Omega.{arith}
-use Rattle.ring_entries.proofs.changes.all_emptied.Statement.{statement}
-use Rattle.ring_entries.proofs.changes.all_emptied.Tie as tie
+use Rattle.ring_entries.proofs.changes.all_changed.Statement.{statement}
+use Rattle.ring_entries.proofs.changes.all_changed.Tie as tie
 
 abbrev Inv-loop : tie.InvT-loop
-Inv-loop count n next₀ i₀ next i = (i ≤ n) × (length next ≡ maxUnits) × (mapFrom emptied i (rowsOf count next) ≡ map emptied (rowsOf count next₀))
+Inv-loop count change n next₀ i₀ next i = (i ≤ n) × (length next ≡ maxUnits) × (mapFrom (changeOf change) i (rowsOf count next) ≡ map (changeOf change) (rowsOf count next₀))
 
 abbrev μ-loop : tie.MeasureT-loop
-μ-loop count n next₀ i₀ next i = n - i
+μ-loop count change n next₀ i₀ next i = n - i
 
 clamp-requires : tie.Need-clamp-requires Inv-loop μ-loop
 clamp-requires c κs = search needs
@@ -36,8 +36,8 @@ array-copy-out-entry c =
     let at-clamp = c .before .before in
     omega (arith, at-clamp .clamp .ensures, c .loop-test .taken)
 
-emptied-requires : tie.Need-emptied-requires Inv-loop μ-loop
-emptied-requires c κs = search needs
+changed-requires : tie.Need-changed-requires Inv-loop μ-loop
+changed-requires c κs = search needs
 
 mul-next : tie.Need-mul-next Inv-loop μ-loop
 mul-next c =
@@ -65,17 +65,17 @@ loop-again c =
     let at-loop = at-loop-test .before in
     let at-clamp = at-loop .before in
     let start = at-clamp .before in
-    let w = at-loop .loop .inv in (omega arith, simp length-set (w .1), change-on (start .args .count) (at-loop .loop .i) (at-loop .loop .next) (w .1) emptied _ (c .emptied .result) (omega (arith, at-clamp .clamp .ensures, at-loop-test .loop-test .taken)) (c .emptied .ensures) (w .2))
+    let w = at-loop .loop .inv in (omega arith, simp length-set (w .1), change-on (start .args .count) (at-loop .loop .i) (at-loop .loop .next) (w .1) (changeOf (start .args .change)) _ (c .changed .result) (omega (arith, at-clamp .clamp .ensures, at-loop-test .loop-test .taken)) (c .changed .ensures) (w .2))
 
 returns : tie.Need-returns Inv-loop μ-loop
 returns c =
     let at-loop = c .before in
     let at-clamp = at-loop .before in
     let start = at-clamp .before in
-    let w = at-loop .loop .inv in change-end (start .args .count) (at-loop .loop .i) (at-loop .loop .next) (w .1) emptied (omega (arith, at-clamp .clamp .ensures, c .loop-test .left)) (w .2)
+    let w = at-loop .loop .inv in change-end (start .args .count) (at-loop .loop .i) (at-loop .loop .next) (w .1) (changeOf (start .args .change)) (omega (arith, at-clamp .clamp .ensures, c .loop-test .left)) (w .2)
 
-pub all-emptied-spec : {M : Type 1} → statement M
-all-emptied-spec =
+pub all-changed-spec : {M : Type 1} → statement M
+all-changed-spec =
     tie.close
     (tie.spec
     Inv-loop
@@ -84,7 +84,7 @@ all-emptied-spec =
     loop-holds
     mul-entry
     array-copy-out-entry
-    emptied-requires
+    changed-requires
     mul-next
     array-set-from-next
     add-i

@@ -2,8 +2,8 @@
 use Rattle.rules.specs.Order.{kindOf}
 use borrow.Author.Needs.{needs}
 use mathlib.Core.Path.{refl}
-use Rattle.wire_orders.proofs.kind_of.Statement.{statement}
-use Rattle.wire_orders.proofs.kind_of.Tie as tie
+use Rattle.wire_orders.proofs.delta_kind.Statement.{statement}
+use Rattle.wire_orders.proofs.delta_kind.Tie as tie
 
 enum-told : tie.Need-enum-told
 enum-told c = search needs
@@ -19,5 +19,5 @@ returns-2 : tie.Need-returns-2
 unfolding kindOf
 returns-2 c = rw (c .enum-told2 .given .1) refl
 
-pub kind-of-spec : {M : Type 1} → statement M
-kind-of-spec = tie.close (tie.spec enum-told enum-told-2 returns returns-2)
+pub delta-kind-spec : {M : Type 1} → statement M
+delta-kind-spec = tie.close (tie.spec enum-told enum-told-2 returns returns-2)

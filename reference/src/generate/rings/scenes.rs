@@ -1,0 +1,383 @@
+//! The scenes: each begins with a fresh picture and new units, and leads the ring to one kind of trouble.
+
+use super::steps::{ADDRESS_EDGES, PASS_EDGES};
+use super::units::{beggar, Unit};
+use super::{Habits, Play, Played, Stage};
+use crate::registry::{Pair, State};
+use crate::sizes::{MAX_NODES, MAX_PAIRS};
+use crate::wire::{answer, DELAY, NONE};
+
+/// Addresses that many units share.
+const SHARED: &[u16] = &[0x0101, 0x02FF, 0x0102, 0x0103, 0x0100, 0x0300, 0x02FE, 0x0200, 0x0000, 0x00FF, 0xFFFF];
+const OUT_OF_RANGE: &[u16] = &[0x0100, 0x0300, 0xFFFF, 0x0000];
+/// Numbers at the ends of the words of a bit set.
+const SPARE: &[u8] = &[1, 2, 62, 63, 64, 64, 65, 100, 126, 127, 128, 191, 192, 193, 253, 254, 254, 254];
+
+impl<S: Stage> Play<'_, S> {
+    pub const SCENES: [fn(&mut Self) -> Played<S>; 16] = [
+        Self::mixed,
+        Self::silences,
+        Self::mixed,
+        Self::addresses,
+        Self::quarrel,
+        Self::full_block,
+        Self::mixed,
+        Self::passes,
+        Self::stubborn,
+        Self::full_ring,
+        Self::quarrel,
+        Self::packing,
+        Self::silences,
+        Self::full_block,
+        Self::damage,
+        Self::passes,
+    ];
+
+    /// All tempers, and much that does not belong.
+    fn mixed(&mut self) -> Played<S> {
+        let nodes = self.ring_size();
+        let (noise, replug) = if nodes < 16 { (self.random.pick(&[100, 260]), 100) } else { (80, 40) };
+        let chatter = self.random.pick(&[30, 60, 90]);
+        let most_pairs = self.random.pick(&[1, 2, 3, 4, 8, MAX_PAIRS]);
+        self.begin(Habits { nodes, noise, replug, chatter, ..Habits::default() }, most_pairs)?;
+        let steps = self.length(40 + 5 * nodes, 150 + 5 * nodes);
+        self.steps(steps)
+    }
+
+    /// Units that are silent up to and beyond twenty times.
+    fn silences(&mut self) -> Played<S> {
+        let nodes = self.random.pick(&[2, 3, 3, 4, 5, if S::PATIENT { MAX_NODES } else { 4 }]);
+        self.begin(Habits { nodes, noise: 15, replug: 5, delay: 900, chatter: 30, ..Habits::default() }, 4)?;
+        let shares: &[u8] = self.random.pick(&[&[100], &[100, 0], &[100, 0], &[100, 100, 97, 80, 0]]);
+        for unit in &mut self.units {
+            unit.silent = self.random.pick(shares);
+            unit.lies = 0;
+        }
+        self.units[1].silent = 100;
+        self.scan()?;
+        for round in 0..self.random.range(20, 28) {
+            self.reply_to_each()?;
+            if round > 10 && self.random.chance(3) {
+                self.bad_address()?;
+            }
+            self.event(DELAY, self.pass(), 0)?;
+            self.steps(1)?;
+        }
+        self.reply_to_each()?;
+        for _ in 0..3 {
+            self.late_silence()?;
+        }
+        for unit in &mut self.units {
+            unit.silent /= 2;
+        }
+        self.steps(25)
+    }
+
+    /// A unit that is asked by a SET turns silent beside those that are silent for long.
+    fn late_silence(&mut self) -> Played<S> {
+        let position = self.nodes().saturating_sub(1).max(1) as u8;
+        let pair = Pair { block: 0x22, number: 0 };
+        let address = self.units[position as usize].address;
+        self.offer(&answer(self.pass(), position, address, &[pair]))?;
+        self.event(NONE, self.pass(), position)?;
+        for _ in 0..2 {
+            self.event(DELAY, self.pass(), 0)?;
+            for open in self.open_positions() {
+                self.event(NONE, self.pass(), open)?;
+            }
+        }
+        Ok(())
+    }
+
+    /// One unit announces an address out of range.
+    fn bad_address(&mut self) -> Played<S> {
+        let (position, address) = (self.any_position(), self.random.pick(OUT_OF_RANGE));
+        self.offer(&answer(self.pass(), position, address, &[]))
+    }
+
+    /// Units that share few addresses until they are ignored; others are barred.
+    fn addresses(&mut self) -> Played<S> {
+        let nodes = self.random.range(3, 9);
+        self.begin(Habits { nodes, chatter: 60, ..Habits::default() }, 5)?;
+        let random = &mut self.random;
+        let pool: Vec<u16> = (0..random.range(2, 4)).map(|_| random.pick(SHARED)).collect();
+        for (position, unit) in self.units.iter_mut().enumerate() {
+            unit.address = if random.chance(60) { random.pick(&pool) } else { 0x0110 + position as u16 };
+            unit.lies = random.pick(&[0, 0, 10]);
+            unit.silent = random.pick(&[0, 0, 10]);
+        }
+        self.scan()?;
+        self.reply_to_all(80)?;
+        for _ in 0..self.length(4, 14) {
+            let steps = self.length(2, 15);
+            self.steps(steps)?;
+            self.barred_unit()?;
+            let (position, address) = (self.any_position(), self.random.pick(&pool));
+            self.announce_address(position, address)?;
+        }
+        self.replug()?;
+        self.reply_to_all(40)?;
+        self.steps(10)
+    }
+
+    /// Two units with pairs come to OK, one of them counted up to twice; then one announces the other's address.
+    fn quarrel(&mut self) -> Played<S> {
+        let nodes = self.random.range(3, 5);
+        self.begin(Habits { nodes, chatter: 60, ..Habits::default() }, 4)?;
+        for (position, unit) in self.units.iter_mut().enumerate() {
+            let own = |number| Pair { block: 0x30 + position as u8, number };
+            let pairs = (1..=1 + (position % 7) as u8 * 2).map(own).collect();
+            let silent = if position > 2 { self.random.pick(&[0, 0, 0, 100]) } else { 0 };
+            *unit = Unit { obeys: 50, silent, ..Unit::honest(position, pairs) };
+        }
+        self.scan()?;
+        let counted = self.random.range(1, 2) as u8;
+        for _ in 0..self.random.pick(&[0, 1, 2, 2, 2]) {
+            let address = self.random.pick(OUT_OF_RANGE);
+            self.announce_address(counted, address)?;
+        }
+        self.reply_to_all(30)?;
+        if self.random.chance(40) {
+            self.open_a_question()?;
+        }
+        let (one, other) = self.random.pick(&[(1, 2), (2, 1)]);
+        let address = self.random.pick(&[0x0100 + other, 0x0100 + other, 0x0200, 0x0300]);
+        self.offer(&answer(self.pass(), one, address, &[]))?;
+        self.stage.look_closely()?;
+        for address in [address, 0x0100 + u16::from(one)] {
+            let position = self.any_position();
+            self.announce_address(position, address)?;
+        }
+        self.steps(20)
+    }
+
+    /// A unit announces a pair that must be renumbered.
+    fn open_a_question(&mut self) -> Played<S> {
+        let position = self.any_position();
+        let number = self.random.pick(&[0, 255]);
+        let pairs = &mut self.units[position as usize].pairs;
+        pairs.truncate(MAX_PAIRS - 1);
+        pairs.push(Pair { block: 0x22, number });
+        self.announce(position)
+    }
+
+    /// One block of which nearly all numbers are kept.
+    fn full_block(&mut self) -> Played<S> {
+        let rows = 254usize.div_ceil(MAX_PAIRS);
+        let nodes = self.random.pick(&[rows + 1, rows + 2, rows + 3, rows + 4, rows + 8, MAX_NODES]);
+        self.begin(Habits { nodes, noise: 20, replug: 2, chatter: 20, ..Habits::default() }, 4)?;
+        let (block, random) = (self.taste.blocks[0], &mut self.random);
+        let mut numbers: Vec<u8> = (1..=254).collect();
+        if random.chance(60) {
+            random.shuffle(&mut numbers);
+        }
+        for _ in 0..random.pick(&[0, 1, 1, 1, 1, 2, 3, 4]) {
+            let spare = random.pick(SPARE);
+            numbers.retain(|&number| number != spare);
+        }
+        let mut chunks = numbers.chunks(MAX_PAIRS);
+        for (position, unit) in self.units.iter_mut().enumerate().skip(1) {
+            let pairs = match chunks.next() {
+                Some(chunk) => chunk.iter().map(|&number| Pair { block, number }).collect(),
+                None => beggar(block, 5, random),
+            };
+            *unit = Unit { obeys: random.pick(&[0, 100]), ..Unit::honest(position, pairs) };
+        }
+        self.scan()?;
+        self.reply_to_each()?;
+        self.reply_to_all(60)?;
+        self.stage.look_closely()?;
+        for _ in 0..self.length(8, 30) {
+            self.beg(block)?;
+        }
+        self.stage.look_closely()
+    }
+
+    /// In a full block some unit gives numbers up, and another asks for more.
+    fn beg(&mut self, block: u8) -> Played<S> {
+        if self.random.chance(60) {
+            let giver = self.any_position();
+            let keep = self.random.range(MAX_PAIRS / 2, MAX_PAIRS);
+            self.units[giver as usize].pairs.truncate(keep);
+            self.announce(giver)?;
+        }
+        let taker = self.any_position();
+        let most = self.random.pick(&[4, MAX_PAIRS]);
+        let pairs = beggar(block, most, &mut self.random);
+        let kept = &mut self.units[taker as usize].pairs;
+        if self.random.chance(40) {
+            kept.clear();
+        }
+        kept.extend(pairs);
+        kept.truncate(MAX_PAIRS);
+        self.announce(taker)?;
+        self.steps(4)
+    }
+
+    /// Units with many bad pairs that refuse, shorten, lengthen or shuffle.
+    fn stubborn(&mut self) -> Played<S> {
+        let nodes = self.random.range(2, 6);
+        self.begin(Habits { nodes, noise: 30, ..Habits::default() }, MAX_PAIRS)?;
+        self.taste.blocks.truncate(2);
+        self.taste.low_numbers = true;
+        let random = &mut self.random;
+        let most = random.pick(&[6, MAX_PAIRS]);
+        for (position, unit) in self.units.iter_mut().enumerate() {
+            let mut bad = || Pair { block: random.pick(&self.taste.blocks), number: random.pick(&[0, 1, 1, 2, 255]) };
+            let pairs = (0..1 + position * 7 % most).map(|_| bad()).collect();
+            *unit = Unit {
+                obeys: random.pick(&[0, 0, 0, 30, 70, 100]),
+                fidgets: random.pick(&[0, 0, 15, 80]),
+                silent: random.pick(&[0, 0, 3]),
+                ..Unit::honest(0x80 + position, pairs)
+            };
+        }
+        self.scan()?;
+        let replies = self.length(60, 300);
+        self.reply_to_all(replies)?;
+        self.steps(25)
+    }
+
+    /// The greatest ring with full rows, then changes of whole rows.
+    fn full_ring(&mut self) -> Played<S> {
+        let nodes = self.random.pick(&[MAX_NODES, MAX_NODES, MAX_NODES, MAX_NODES - 1]);
+        self.begin(Habits { nodes, noise: 20, replug: 4, delay: 500, chatter: 8, ..Habits::default() }, MAX_PAIRS)?;
+        let layout = self.random.below(3);
+        for (position, unit) in self.units.iter_mut().enumerate().skip(1) {
+            *unit = Unit::honest(position, (0..MAX_PAIRS).map(|index| full_pair(layout, position, index)).collect());
+        }
+        self.taste.blocks = (1..MAX_NODES).map(|position| self.units[position].pairs[0].block).collect();
+        self.scan()?;
+        self.reply_to_each()?;
+        self.stage.look_closely()?;
+        self.steps(20)?;
+        for _ in 0..self.length(12, 24) {
+            self.change_a_row()?;
+        }
+        self.stage.look_closely()?;
+        let position = self.any_position();
+        self.units[position as usize].address = self.random.pick(ADDRESS_EDGES);
+        self.steps(20)?;
+        if self.ring().state() == State::Ok {
+            self.bad_address()?;
+        }
+        self.scan()?;
+        self.steps(20)
+    }
+
+    /// A unit announces another full row, and sometimes its own again later.
+    fn change_a_row(&mut self) -> Played<S> {
+        let (position, other) = (self.any_position() as usize, self.any_position() as usize);
+        let kept = self.units[position].pairs.clone();
+        match self.random.below(4) {
+            0 => self.units[position].pairs = self.taste.pairs(MAX_PAIRS, &mut self.random),
+            1 => self.units[position].pairs = self.units[other].pairs.clone(),
+            2 => self.units[position].pairs.reverse(),
+            _ => self.units[position].pairs.iter_mut().for_each(|pair| pair.block ^= 0x40),
+        }
+        self.announce(position as u8)?;
+        self.steps(3)?;
+        if self.random.chance(60) {
+            self.units[position].pairs = kept;
+        }
+        Ok(())
+    }
+
+    /// Long lists that change in OK, told in orders of (L - 1) / 2 pairs.
+    fn packing(&mut self) -> Played<S> {
+        for _ in 0..4 {
+            let nodes = self.random.range(2, 4);
+            self.begin(Habits { nodes, noise: 10, replug: 5, delay: 300, chatter: 20, ..Habits::default() }, 4)?;
+            for (position, unit) in self.units.iter_mut().enumerate() {
+                *unit = Unit { fidgets: 10, silent: 3, ..Unit::honest(position, Vec::new()) };
+            }
+            self.scan()?;
+            self.reply_to_each()?;
+            for _ in 0..self.length(16, 32) {
+                self.repack()?;
+            }
+        }
+        Ok(())
+    }
+
+    /// A unit announces a run of numbers, alone or with pairs that it had.
+    fn repack(&mut self) -> Played<S> {
+        let position = self.any_position();
+        let random = &mut self.random;
+        let any = random.range(0, MAX_PAIRS);
+        let count = random.pick(&[0, 1, 5, 6, 10, 11, MAX_PAIRS - 1, MAX_PAIRS, MAX_PAIRS, any, any, any]) as u8;
+        let (first, block) = (random.range(1, 254 - MAX_PAIRS) as u8, random.pick(&[0x22, 0x23]));
+        let fresh = (first..first + count).map(|number| Pair { block, number });
+        let pairs = &mut self.units[position as usize].pairs;
+        match random.below(4) {
+            0 | 1 => *pairs = fresh.collect(),
+            2 => drop(pairs.splice(..pairs.len().min(MAX_PAIRS / 2), fresh)),
+            _ => pairs.extend(fresh),
+        }
+        pairs.truncate(MAX_PAIRS);
+        self.announce(position)?;
+        self.steps(1)
+    }
+
+    /// Every kind damaged in every state, and one record damaged at every byte.
+    fn damage(&mut self) -> Played<S> {
+        let nodes = self.random.range(2, 6);
+        self.begin(Habits { nodes, ..Habits::default() }, 4)?;
+        for _ in 0..12 {
+            self.damaged_record()?;
+        }
+        let steps = self.length(1, 30);
+        self.steps(steps)?;
+        let record = self.taken_record();
+        for place in 0..record.len() {
+            let mut damaged = record.clone();
+            damaged[place] ^= match self.random.chance(70) {
+                true => 1 << self.random.below(8),
+                false => self.random.range(1, 255) as u8,
+            };
+            self.offer(&damaged)?;
+            if self.random.chance(20) {
+                self.offer(&record[..place])?;
+            }
+        }
+        self.habits.noise = 400;
+        for _ in 0..self.length(50, 90) {
+            self.damaged_record()?;
+            let steps = self.random.below(3);
+            self.steps(steps)?;
+        }
+        Ok(())
+    }
+
+    /// Pictures at the last pass and at other edges in every state; or many passes, where the stage cannot set one.
+    fn passes(&mut self) -> Played<S> {
+        let nodes = self.random.pick(&[1, 2, 3, 4, 5, 6, 9, MAX_NODES]);
+        let pass = self.random.pick(&[10, 40, 100]);
+        let most_pairs = self.random.pick(&[1, 2, 4, MAX_PAIRS]);
+        self.begin(Habits { nodes, noise: 150, pass, replug: 150, ..Habits::default() }, most_pairs)?;
+        for unit in &mut self.units {
+            unit.lies = unit.lies.max(self.random.pick(&[0, 0, 5, 20]));
+        }
+        let first = self.random.pick(PASS_EDGES);
+        if !self.stage.set_pass(first)? {
+            let passes = self.random.pick(&[3, 3, 10, 10, 10, 10, 10, 10, 10, 260, 520]);
+            self.climb(passes)?;
+        } else if first == u32::MAX {
+            self.go_on()?;
+            self.stage.set_pass(first - 1)?;
+        }
+        let steps = self.length(40, 120) + nodes;
+        self.steps(steps)
+    }
+}
+
+/// A pair of a full ring: all in few blocks, or one block for each index, or for each position with its numbers far apart.
+fn full_pair(layout: usize, position: usize, index: usize) -> Pair {
+    let place = (position - 1) * MAX_PAIRS + index;
+    let (block, number) = match layout {
+        0 => (0x22 + place / 256, place % 256),
+        1 => (0x10 + index, position),
+        _ => (0x20 + position, 1 + index * 253 / (MAX_PAIRS - 1)),
+    };
+    Pair { block: block as u8, number: number as u8 }
+}

@@ -1,0 +1,27 @@
+//! The sizes of rings, telegrams and lent room; whatever else has a size takes it from here.
+
+/// The most nodes a ring has, the NetworkMaster at position 0 among them.
+pub const MAX_NODES: usize = 64;
+/// The most units, from position 1 on.
+pub const MAX_UNITS: usize = MAX_NODES - 1;
+/// The most pairs a row keeps and an ANSWER carries.
+pub const MAX_PAIRS: usize = 16;
+/// The most entries of a listing.
+pub const MAX_LISTED: usize = MAX_UNITS * MAX_PAIRS;
+/// The least order room.
+pub const MIN_ROOM: usize = 512;
+
+/// The least payload size L of a telegram, and the greatest.
+pub const MIN_SIZE: usize = 12;
+pub const MAX_SIZE: usize = 45;
+/// The bytes of a telegram in front of its data: MsgID, TelID and TelLen.
+pub const TELEGRAM_HEAD: usize = 6;
+/// The longest telegram.
+pub const MAX_TELEGRAM: usize = TELEGRAM_HEAD + MAX_SIZE;
+/// The longest message, and the least join buffer.
+pub const MAX_PAYLOAD: usize = 65_535;
+
+/// The most order room that a bench lends.
+pub const BENCH_ROOM: usize = 8192;
+/// The longest payload of a bench, and the most room that it lends to a telegram.
+pub const BENCH_PAYLOAD: usize = 70_000;

@@ -35,7 +35,7 @@ extern "C" {
 /* Sizes. */
 #define LATHEPETAL_MIN_SIZE 12       /* L, the payload size of a telegram: from here */
 #define LATHEPETAL_MAX_SIZE 45       /* to here */
-#define LATHEPETAL_MAX_ENTRIES 63    /* units with an entry: positions 1 to 63 */
+#define LATHEPETAL_MAX_UNITS 63      /* units with an entry: positions 1 to 63 */
 #define LATHEPETAL_MAX_PAIRS 16      /* pairs that an entry keeps */
 #define LATHEPETAL_MAX_LISTED 1008   /* places of a listing */
 #define LATHEPETAL_MIN_ROOM 512      /* the least room for orders, which is enough for each record */
@@ -102,7 +102,7 @@ struct lathepetal_picture {
     uint8_t delay; /* 1 while a delay runs */
     uint8_t size;  /* L */
     uint8_t units; /* how many entries count: N - 1 */
-    struct lathepetal_entry entries[LATHEPETAL_MAX_ENTRIES];
+    struct lathepetal_entry entries[LATHEPETAL_MAX_UNITS];
 };
 
 /* The whole listing, by position and announced order: the first `count` places of each array, and zeros behind them. */

@@ -16,6 +16,7 @@ use text_arguments::TOO_LONG;
 use text_in::CHUNK;
 use text_in::Input;
 use text_in::MAX_LINE;
+use text_numbers::Asked;
 use text_out::Output;
 use text_out::SPACE;
 use text_words::numbers::smaller;
@@ -56,7 +57,7 @@ fn fresh(bench: Bench, text: &mut [u8; SPACE], l: usize) -> Bench
     let number = answer.number();
     let room = bench.room;
     if number != DONE {
-        let refused = text_answers::refusal(asked, text, number);
+        let refused = text_answers::refusal(asked, text, Asked::Picture, number);
         return Bench {
             picture,
             room,
@@ -107,7 +108,7 @@ fn recorded_lines(
     length: usize,
 ) -> Output {
     if number != DONE {
-        return text_answers::refusal(output, text, number);
+        return text_answers::refusal(output, text, Asked::Record, number);
     }
     let taken = output.line(text, b"= taken");
     let end = smaller(length, orders.len());

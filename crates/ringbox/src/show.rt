@@ -12,6 +12,7 @@ use row_entry::NodeEntry;
 use row_entry::SETTING;
 use row_entry::SILENT;
 use sizes::MAX_LISTED;
+use text_numbers::Asked;
 use text_out::Output;
 use text_out::SPACE;
 use wire_address::NodePosition;
@@ -85,7 +86,7 @@ pub fn listing(output: Output, text: &mut [u8; SPACE], listing: Listing) -> Outp
 pub fn found(output: Output, text: &mut [u8; SPACE], found: Lookup) -> Output {
     let number = found.number();
     if number != DONE {
-        return text_answers::refusal(output, text, number);
+        return text_answers::refusal(output, text, Asked::LookUp, number);
     }
     let position = found.position();
     let address = found.address();

@@ -15,6 +15,7 @@ use text_arguments::TOO_LONG;
 use text_in::CHUNK;
 use text_in::Input;
 use text_in::MAX_LINE;
+use text_numbers::Asked;
 use text_out::Output;
 use text_out::SPACE;
 use text_words::numbers::smaller;
@@ -120,7 +121,7 @@ fn counted(output: Output, text: &mut [u8; SPACE], payload: &[u8], l: usize) -> 
     let answer = tel_count::count(l, payload);
     let number = answer.number();
     if number != DONE {
-        return text_answers::refusal(output, text, number);
+        return text_answers::refusal(output, text, Asked::Telegram, number);
     }
     let values = [answer.telegrams()];
     output.form(text, b"= count %d\n", &values)
@@ -144,8 +145,8 @@ fn telegram(
 ) -> Output {
     let answer = tel_cut::cut(l, msg_id, payload, number, room);
     let refused = answer.number();
-    if refused != 0 {
-        return text_answers::refusal(output, text, refused);
+    if refused != DONE {
+        return text_answers::refusal(output, text, Asked::Telegram, refused);
     }
     let length = smaller(answer.length(), room.len());
     let name = output.bytes(text, b"= telegram ");
@@ -258,7 +259,7 @@ fn join(desk: Desk, text: &mut [u8; SPACE], buffer: &mut [u8], l: usize, bytes: 
     let next = joined.state;
     match answer {
         JoinAnswer::Refused(number) => {
-            let refused = text_answers::refusal(told, text, number);
+            let refused = text_answers::refusal(told, text, Asked::Telegram, number);
             Desk {
                 payload: desk.payload,
                 joining: next,

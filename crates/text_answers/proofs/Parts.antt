@@ -1,17 +1,18 @@
 -- A line's kind by its first byte, and the parts of what is said.
-use Prim.Native.Nat.{ℕ, _-_, _≤_, _<_}
+use Prim.Native.Nat.{ℕ, _-_, _≤_}
 use mathlib.Core.Path.{_≡_, refl, sym, _∙_, ap}
 use mathlib.Core.Bool.{Bool, true, false, cond, _||_}
 use mathlib.Core.List.{List, [], _∷_, _++_}
 use native.Mathlib.Omega.{arith}
-use borrow.Author.Tests.{lt-ltb, le-ltb, eq-eqb, ne-eqb, eqb-false}
+use borrow.Author.Tests.{eq-eqb, ne-eqb, eqb-false}
 use lib.Dec.{eqb}
 use lib.ListN.{length, take}
 use Rattle.laws.specs.Bools.{cond-true, cond-false, or-false, or-true-left, or-true-right}
-use Rattle.text_out.specs.Spelling.{lined, decimalOf, valueOf, filledFrom, filled}
+use Rattle.text_out.specs.Spelling.{lined, valueOf, filledFrom, filled}
 use Rattle.text_out.specs.Texts.{codes}
-use Rattle.text_numbers.specs.Wording.{whyOf, recordMeans, telegramMeans}
-use Rattle.text_answers.specs.Remarks.{kindOf, toldOf, shownOf, spacedOf, commentOf, notUnderstood, meaning, refusalOf}
+use Rattle.text_numbers.specs.declared.Asked.{Asked}
+use Rattle.text_numbers.specs.Wording.{wordsOf, whyOf}
+use Rattle.text_answers.specs.Remarks.{kindOf, toldOf, shownOf, spacedOf, commentOf, notUnderstood, refusalOf}
 use Rattle.text_answers.specs.declared.LineKind.the-variants.{Remark, EarlierAnswer, Offer}
 
 -- a line without a byte, and one with a first byte: a remark, an earlier answer, an offer
@@ -63,15 +64,6 @@ comment-is line reason {told} {end} e f =
     ap (λ (n : ℕ). (35 ∷ []) ++ lined (spacedOf (take n line)) ++ codes "# not understood: " ++ lined (whyOf told)) all ∙ ap (commentOf line) e
 
 -- the parts of a refusal
-module _ (n : ℕ) where
-  refusal-is : {words : List ℕ} → words ≡ meaning n → filled (codes "! %d  ") (n ∷ []) ++ lined words ≡ refusalOf n
-  unfolding refusalOf filledFrom valueOf
-  refusal-is e = ap (λ (l : List ℕ). codes "! " ++ decimalOf n ++ codes "  " ++ lined l) e
-
-  pub refusal-record : n < 10 → filled (codes "! %d  ") (n ∷ []) ++ lined (recordMeans n) ≡ refusalOf n
-  unfolding meaning
-  refusal-record h = refusal-is (sym (cond-true _ _ (lt-ltb n 10 h)))
-
-  pub refusal-telegram : 10 ≤ n → filled (codes "! %d  ") (n ∷ []) ++ lined (telegramMeans n) ≡ refusalOf n
-  unfolding meaning
-  refusal-telegram h = refusal-is (sym (cond-false _ _ (le-ltb n 10 h)))
+pub refusal-is : (asked : Asked) (n : ℕ) → filled (codes "! %d  ") (n ∷ []) ++ lined (wordsOf asked n) ≡ refusalOf asked n
+unfolding refusalOf filledFrom valueOf
+refusal-is asked n = refl

@@ -9,7 +9,8 @@ use Rattle.text_words.specs.Text.{trimmedLength}
 use Rattle.text_in.specs.Lines.{maxLine}
 use Rattle.text_out.specs.Spelling.{lined, decimalOf}
 use Rattle.text_out.specs.Texts.{codes}
-use Rattle.text_numbers.specs.Wording.{whyOf, recordMeans, telegramMeans}
+use Rattle.text_numbers.specs.declared.Asked.{Asked}
+use Rattle.text_numbers.specs.Wording.{wordsOf, whyOf}
 use Rattle.text_answers.specs.declared.LineKind.{LineKind}
 use Rattle.text_answers.specs.declared.LineKind.the-variants.{Remark, EarlierAnswer, Offer}
 
@@ -45,13 +46,6 @@ commentOf line reason = (code "#" ∷ lined (spacedOf (take (shownOf line reason
 abbrev pub notUnderstood : List ℕ → ℕ → List ℕ
 notUnderstood line reason = commentOf line (toldOf line reason)
 
--- what a refusal means: the numbers from 10 on are of telegrams
-abbrev pub firstOfTelegrams : ℕ
-firstOfTelegrams = 10
-
-unfoldable pub meaning : ℕ → List ℕ
-meaning number = cond (ltb number firstOfTelegrams) (recordMeans number) (telegramMeans number)
-
--- a refusal: its number and what that means
-unfoldable pub refusalOf : ℕ → List ℕ
-refusalOf number = codes "! " ++ decimalOf number ++ codes "  " ++ lined (meaning number)
+-- a refusal: its number and what that means, by what was asked
+unfoldable pub refusalOf : Asked → ℕ → List ℕ
+refusalOf asked number = codes "! " ++ decimalOf number ++ codes "  " ++ lined (wordsOf asked number)

@@ -7,15 +7,13 @@ ghost use Rattle.text_out.specs.Spelling.{lined};
 ghost use Rattle.text_answers.specs.Remarks.{kindOf, toldOf, shownOf, spacedOf, notUnderstood, refusalOf};
 use text_arguments::TOO_LONG;
 use text_in::MAX_LINE;
+use text_numbers::Asked;
 use text_out::Output;
 use text_out::SPACE;
 use text_words::words;
 
 // How much of a too long line is written back.
 const SHOWN: usize = 64;
-
-// The refusals from this number on are of telegrams.
-const FIRST_OF_TELEGRAMS: u8 = 10;
 
 // What a line is, by its first character.
 pub enum LineKind {
@@ -86,14 +84,11 @@ fn shown_line(output: Output, text: &mut [u8; SPACE], bytes: &[u8]) -> Output
     blank.line(text, bytes)
 }
 
-// A refusal: its number and what that means.
-pub fn refusal(output: Output, text: &mut [u8; SPACE], number: u8) -> Output
-    ensures { λ r. ⌜ Puts output (now (text .entry)) (refusalOf number) r (now (text .exit)) ⌝ }
+// A refusal: its number and what that means, by what was asked.
+pub fn refusal(output: Output, text: &mut [u8; SPACE], asked: Asked, number: u8) -> Output
+    ensures { λ r. ⌜ Puts output (now (text .entry)) (refusalOf asked number) r (now (text .exit)) ⌝ }
 {
     let values = [number as usize];
     let next = output.form(text, b"! %d  ", &values);
-    if number < FIRST_OF_TELEGRAMS {
-        return text_numbers::of_record(next, text, number);
-    }
-    text_numbers::of_telegram(next, text, number)
+    text_numbers::meaning(next, text, asked, number)
 }

@@ -1,2 +1,3 @@
--- Laws that the functions' proofs use.
+-- Laws that the functions' proofs use, and what holds of the tables.
 pub mod Tables
+pub mod Own

@@ -1,59 +1,88 @@
--- The words for a number: why a line is not understood, and what a refusal means.
+-- The words of a number: what a refusal means, by what was asked, and why a line is not understood.
 use Prim.Native.Nat.{ℕ}
-use Prim.Native.String.{String}
 use mathlib.Core.Bool.{cond}
 use mathlib.Core.List.{List, [], _∷_}
 use lib.Dec.{eqb}
+use Rattle.rules.specs.House.{minSize, maxSize, minRoom, maxPayload}
+use Rattle.text_in.specs.Lines.{maxLine}
+use Rattle.text_out.specs.Spelling.{filled}
 use Rattle.text_out.specs.Texts.{codes}
+use Rattle.text_numbers.specs.declared.Asked.{Asked}
+use Rattle.text_numbers.specs.declared.Asked.the-variants.{Record, Picture, Telegram, LookUp}
 
--- the words beside a number in a table, or other words for any other number
-unfoldable pub beside : List (ℕ × String) → String → ℕ → List ℕ
-beside [] other n = codes other
-beside (row ∷ rows) other n = cond (eqb n (row .0)) (codes (row .1)) (beside rows other n)
+-- a table: numbers, and the words of each
+abbrev pub Table : Type 0
+Table = List (ℕ × List ℕ)
+
+-- the words of a number without a row, which no row has
+abbrev pub noWords : List ℕ
+noWords = codes "no words for this number"
+
+-- the words beside a number in a table
+unfoldable pub beside : Table → ℕ → List ℕ
+beside [] n = noWords
+beside (row ∷ rows) n = cond (eqb n (row .0)) (row .1) (beside rows n)
+
+-- what a record is refused for
+unfoldable pub ofRecord : Table
+ofRecord =
+    (1, filled (codes "order room below %d bytes") (minRoom ∷ []))
+    ∷ (2, codes "record malformed")
+    ∷ (3, codes "the ring does not run")
+    ∷ (4, codes "the ring runs already")
+    ∷ (5, codes "not the current pass")
+    ∷ (6, codes "no unit at this position")
+    ∷ (7, codes "the position is ignored")
+    ∷ (8, codes "no open question, or no running delay")
+    ∷ (9, codes "no pass is left")
+    ∷ []
+
+-- a fresh picture, for an L that is none
+abbrev pub wrongSize : List ℕ
+wrongSize = filled (codes "L is not %d to %d") (minSize ∷ maxSize ∷ [])
+
+unfoldable pub ofPicture : Table
+ofPicture = (10, wrongSize) ∷ []
+
+-- a telegram, when it is counted, cut or joined
+unfoldable pub ofTelegram : Table
+ofTelegram =
+    (10, wrongSize)
+    ∷ (11, filled (codes "payload above %d bytes") (maxPayload ∷ []))
+    ∷ (12, codes "no telegram of this number")
+    ∷ (13, codes "lent room too short")
+    ∷ (14, codes "telegram malformed")
+    ∷ (15, codes "TelID above 3: passed over")
+    ∷ (16, codes "out of sequence: an open message is dropped")
+    ∷ []
+
+-- a look-up
+unfoldable pub ofLookUp : Table
+ofLookUp = (17, codes "not listed") ∷ (18, codes "the state is not OK") ∷ []
+
+-- the table by what was asked, and what a number given back means
+unfoldable pub tableOf : Asked → Table
+tableOf Record = ofRecord
+tableOf Picture = ofPicture
+tableOf Telegram = ofTelegram
+tableOf LookUp = ofLookUp
+
+abbrev pub wordsOf : Asked → ℕ → List ℕ
+wordsOf asked n = beside (tableOf asked) n
 
 -- why a line is not understood, by the number of the reason
-unfoldable pub reasons : List (ℕ × String)
+unfoldable pub reasons : Table
 reasons =
-    (1, "unknown word")
-    ∷ (2, "a word is missing")
-    ∷ (3, "not a decimal number")
-    ∷ (4, "number does not fit")
-    ∷ (5, "not hexadecimal")
-    ∷ (6, "odd number of hex digits")
-    ∷ (7, "wrong number of hex digits")
-    ∷ (8, "a word too many")
+    (1, codes "unknown word")
+    ∷ (2, codes "a word is missing")
+    ∷ (3, codes "not a decimal number")
+    ∷ (4, codes "number does not fit")
+    ∷ (5, codes "not hexadecimal")
+    ∷ (6, codes "odd number of hex digits")
+    ∷ (7, codes "wrong number of hex digits")
+    ∷ (8, codes "a word too many")
+    ∷ (9, filled (codes "line of more than %d bytes") (maxLine ∷ []))
     ∷ []
 
 abbrev pub whyOf : ℕ → List ℕ
-whyOf n = beside reasons "line of more than 16384 bytes" n
-
--- what a refusal means, by its number: of a record, and of a telegram
-unfoldable pub ofRecords : List (ℕ × String)
-ofRecords =
-    (1, "order room below 512 bytes")
-    ∷ (2, "record malformed")
-    ∷ (3, "the ring does not run")
-    ∷ (4, "the ring runs already")
-    ∷ (5, "not the current pass")
-    ∷ (6, "no unit at this position")
-    ∷ (7, "the position is ignored")
-    ∷ (8, "no open question, or no running delay")
-    ∷ []
-
-abbrev pub recordMeans : ℕ → List ℕ
-recordMeans n = beside ofRecords "no pass is left" n
-
-unfoldable pub ofTelegrams : List (ℕ × String)
-ofTelegrams =
-    (10, "L is not 12 to 45")
-    ∷ (11, "payload above 65535 bytes")
-    ∷ (12, "no telegram of this number")
-    ∷ (13, "lent room too short")
-    ∷ (14, "telegram malformed")
-    ∷ (15, "TelID above 3: passed over")
-    ∷ (16, "out of sequence: an open message is dropped")
-    ∷ (17, "not listed")
-    ∷ []
-
-abbrev pub telegramMeans : ℕ → List ℕ
-telegramMeans n = beside ofTelegrams "the state is not OK" n
+whyOf n = beside reasons n

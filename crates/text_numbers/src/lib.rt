@@ -1,19 +1,125 @@
-// The words for a number: why a line is not understood, and what a record or a telegram is refused for.
+// The words of a number: what a refusal means, by what was asked, and why a line is not understood.
 ghost use Rattle.text_out.specs.Puts.{Puts};
 ghost use Rattle.text_out.specs.Spelling.{lined};
-ghost use Rattle.text_numbers.specs.Wording.{whyOf, recordMeans, telegramMeans};
+ghost use Rattle.text_numbers.specs.Wording.{noWords, beside, ofRecord, ofPicture, ofTelegram, ofLookUp, wordsOf, whyOf};
+use numbers::ALREADY_RUNNING;
+use numbers::ILLEGAL_SIZE;
+use numbers::NO_PASS_LEFT;
+use numbers::NO_SUCH_POSITION;
+use numbers::NO_SUCH_TELEGRAM;
+use numbers::NOT_ASKED;
+use numbers::NOT_LISTED;
+use numbers::NOT_OK;
+use numbers::NOT_RUNNING;
+use numbers::ORDER_ROOM_TOO_SHORT;
+use numbers::OUT_OF_SEQUENCE;
+use numbers::PAYLOAD_TOO_LONG;
+use numbers::POSITION_IGNORED;
+use numbers::RECORD_MALFORMED;
+use numbers::ROOM_TOO_SHORT;
+use numbers::TEL_ID_PASSED_OVER;
+use numbers::TELEGRAM_MALFORMED;
+use numbers::WRONG_PASS;
+use sizes::MAX_PAYLOAD;
+use sizes::MAX_SIZE;
+use sizes::MIN_ROOM;
+use sizes::MIN_SIZE;
 use text_arguments::DOES_NOT_FIT;
 use text_arguments::NO_DECIMAL;
 use text_arguments::NO_HEX;
 use text_arguments::ODD_HEX;
+use text_arguments::TOO_LONG;
 use text_arguments::UNKNOWN_WORD;
 use text_arguments::WORD_MISSING;
 use text_arguments::WORD_TOO_MANY;
 use text_arguments::WRONG_HEX;
+use text_in::MAX_LINE;
 use text_out::Output;
 use text_out::SPACE;
 
-// The words of a reason.
+// What was asked, and has its own numbers: a record to take, a fresh picture, a telegram to count, cut or join, a look-up.
+pub enum Asked {
+    Record,
+    Picture,
+    Telegram,
+    LookUp,
+}
+
+// A number without a row: words that are no refusal's.
+fn no_words(output: Output, text: &mut [u8; SPACE]) -> Output
+    ensures { λ r. ⌜ Puts output (now (text .entry)) (lined noWords) r (now (text .exit)) ⌝ }
+{
+    output.line(text, b"no words for this number")
+}
+
+// What a record is refused for.
+fn of_record(output: Output, text: &mut [u8; SPACE], number: u8) -> Output
+    ensures { λ r. ⌜ Puts output (now (text .entry)) (lined (beside ofRecord number)) r (now (text .exit)) ⌝ }
+{
+    match number {
+        ORDER_ROOM_TOO_SHORT => output.form(text, b"order room below %d bytes\n", &[MIN_ROOM]),
+        RECORD_MALFORMED => output.line(text, b"record malformed"),
+        NOT_RUNNING => output.line(text, b"the ring does not run"),
+        ALREADY_RUNNING => output.line(text, b"the ring runs already"),
+        WRONG_PASS => output.line(text, b"not the current pass"),
+        NO_SUCH_POSITION => output.line(text, b"no unit at this position"),
+        POSITION_IGNORED => output.line(text, b"the position is ignored"),
+        NOT_ASKED => output.line(text, b"no open question, or no running delay"),
+        NO_PASS_LEFT => output.line(text, b"no pass is left"),
+        _ => no_words(output, text),
+    }
+}
+
+// What a fresh picture is refused for.
+fn of_picture(output: Output, text: &mut [u8; SPACE], number: u8) -> Output
+    ensures { λ r. ⌜ Puts output (now (text .entry)) (lined (beside ofPicture number)) r (now (text .exit)) ⌝ }
+{
+    match number {
+        ILLEGAL_SIZE => output.form(text, b"L is not %d to %d\n", &[MIN_SIZE, MAX_SIZE]),
+        _ => no_words(output, text),
+    }
+}
+
+// What a telegram is refused for, when it is counted, cut or joined.
+fn of_telegram(output: Output, text: &mut [u8; SPACE], number: u8) -> Output
+    ensures { λ r. ⌜ Puts output (now (text .entry)) (lined (beside ofTelegram number)) r (now (text .exit)) ⌝ }
+{
+    match number {
+        ILLEGAL_SIZE => output.form(text, b"L is not %d to %d\n", &[MIN_SIZE, MAX_SIZE]),
+        PAYLOAD_TOO_LONG => output.form(text, b"payload above %d bytes\n", &[MAX_PAYLOAD]),
+        NO_SUCH_TELEGRAM => output.line(text, b"no telegram of this number"),
+        ROOM_TOO_SHORT => output.line(text, b"lent room too short"),
+        TELEGRAM_MALFORMED => output.line(text, b"telegram malformed"),
+        TEL_ID_PASSED_OVER => output.line(text, b"TelID above 3: passed over"),
+        OUT_OF_SEQUENCE => output.line(text, b"out of sequence: an open message is dropped"),
+        _ => no_words(output, text),
+    }
+}
+
+// What a look-up is refused for.
+fn of_look_up(output: Output, text: &mut [u8; SPACE], number: u8) -> Output
+    ensures { λ r. ⌜ Puts output (now (text .entry)) (lined (beside ofLookUp number)) r (now (text .exit)) ⌝ }
+{
+    match number {
+        NOT_LISTED => output.line(text, b"not listed"),
+        NOT_OK => output.line(text, b"the state is not OK"),
+        _ => no_words(output, text),
+    }
+}
+
+// What a number given back means, by what was asked.
+pub fn meaning(output: Output, text: &mut [u8; SPACE], asked: Asked, number: u8) -> Output
+    ensures { λ r. ⌜ Puts output (now (text .entry)) (lined (wordsOf asked number)) r (now (text .exit)) ⌝ }
+{
+    match asked {
+        Asked::Record => of_record(output, text, number),
+        Asked::Picture => of_picture(output, text, number),
+        Asked::Telegram => of_telegram(output, text, number),
+        Asked::LookUp => of_look_up(output, text, number),
+    }
+}
+
+// Why a line is not understood.
 pub fn why(output: Output, text: &mut [u8; SPACE], reason: u8) -> Output
     ensures { λ r. ⌜ Puts output (now (text .entry)) (lined (whyOf reason)) r (now (text .exit)) ⌝ }
 {
@@ -26,40 +132,7 @@ pub fn why(output: Output, text: &mut [u8; SPACE], reason: u8) -> Output
         ODD_HEX => output.line(text, b"odd number of hex digits"),
         WRONG_HEX => output.line(text, b"wrong number of hex digits"),
         WORD_TOO_MANY => output.line(text, b"a word too many"),
-        _ => output.line(text, b"line of more than 16384 bytes"),
-    }
-}
-
-// What a record is refused for.
-pub fn of_record(output: Output, text: &mut [u8; SPACE], number: u8) -> Output
-    ensures { λ r. ⌜ Puts output (now (text .entry)) (lined (recordMeans number)) r (now (text .exit)) ⌝ }
-{
-    match number {
-        1 => output.line(text, b"order room below 512 bytes"),
-        2 => output.line(text, b"record malformed"),
-        3 => output.line(text, b"the ring does not run"),
-        4 => output.line(text, b"the ring runs already"),
-        5 => output.line(text, b"not the current pass"),
-        6 => output.line(text, b"no unit at this position"),
-        7 => output.line(text, b"the position is ignored"),
-        8 => output.line(text, b"no open question, or no running delay"),
-        _ => output.line(text, b"no pass is left"),
-    }
-}
-
-// What a telegram is refused for.
-pub fn of_telegram(output: Output, text: &mut [u8; SPACE], number: u8) -> Output
-    ensures { λ r. ⌜ Puts output (now (text .entry)) (lined (telegramMeans number)) r (now (text .exit)) ⌝ }
-{
-    match number {
-        10 => output.line(text, b"L is not 12 to 45"),
-        11 => output.line(text, b"payload above 65535 bytes"),
-        12 => output.line(text, b"no telegram of this number"),
-        13 => output.line(text, b"lent room too short"),
-        14 => output.line(text, b"telegram malformed"),
-        15 => output.line(text, b"TelID above 3: passed over"),
-        16 => output.line(text, b"out of sequence: an open message is dropped"),
-        17 => output.line(text, b"not listed"),
-        _ => output.line(text, b"the state is not OK"),
+        TOO_LONG => output.form(text, b"line of more than %d bytes\n", &[MAX_LINE]),
+        _ => no_words(output, text),
     }
 }

@@ -3,15 +3,10 @@ ghost use Prim.Native.Nat.{_≤_};
 use text_in::MAX_LINE;
 use text_out::Output;
 use text_out::SPACE;
-
-// Kinds whose records or orders have more fields than the pass.
-const ANSWER: u8 = 4;
-
-const SET: u8 = 2;
-
-const NEW: u8 = 5;
-
-const INVALID: u8 = 6;
+use wire_events::ANSWER;
+use wire_orders::INVALID;
+use wire_orders::NEW;
+use wire_orders::SET;
 
 // The third byte of an event or an order is its kind.
 pub fn kind_of(bytes: &[u8]) -> u8 {

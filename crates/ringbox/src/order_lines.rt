@@ -4,28 +4,18 @@ ghost use lib.ListN.{length};
 use super::fields;
 use text_out::Output;
 use text_out::SPACE;
-
-// The kinds of orders.
-const ASK: u8 = 1;
-
-const SET: u8 = 2;
-
-const OK: u8 = 3;
-
-const NOTOK: u8 = 4;
-
-const NEW: u8 = 5;
-
-const INVALID: u8 = 6;
-
-const WAIT_SHORT: u8 = 7;
-
-// The length of an order without more than its pass, with a position or a count, and of a SET.
-const HEAD: usize = 7;
-
-const WITH_COUNT: usize = 8;
-
-const SET_LENGTH: usize = 13;
+use wire_orders::ASK;
+use wire_orders::ASK_BODY;
+use wire_orders::COUNT;
+use wire_orders::HEAD;
+use wire_orders::INVALID;
+use wire_orders::NEW;
+use wire_orders::NOTOK;
+use wire_orders::OK;
+use wire_orders::PAIR;
+use wire_orders::SET;
+use wire_orders::SET_BODY;
+use wire_orders::WAIT_SHORT;
 
 // A byte as a number.
 fn wide(byte: u8) -> usize
@@ -40,9 +30,9 @@ fn length_of(kind: u8, count: usize) -> usize
     ensures { λ r. ⌜ 1 ≤ r ⌝ }
 {
     match kind {
-        ASK => WITH_COUNT,
-        SET => SET_LENGTH,
-        NEW | INVALID => WITH_COUNT + 2 * count,
+        ASK => HEAD + ASK_BODY,
+        SET => HEAD + SET_BODY,
+        NEW | INVALID => HEAD + COUNT + PAIR * count,
         _ => HEAD,
     }
 }

@@ -1,14 +1,13 @@
 // The commands of a telegram script.
+use sizes::MAX_PAYLOAD;
 use text_arguments::ANY;
 use text_arguments::Argument;
 use text_arguments::UNDERSTOOD;
 use text_arguments::UNKNOWN_WORD;
 use text_words::words;
 
-// The sizes of the buffers: payload, and the bytes of a telegram that a line can hold.
-pub const MAX_PAYLOAD: usize = 70000;
-
-pub const MAX_BUFFER: usize = 65535;
+// The sizes of the buffers: a payload, which may be longer than the longest message, and the bytes of a telegram that a line can hold.
+pub const BENCH_PAYLOAD: usize = 70000;
 
 pub const MAX_TELEGRAM: usize = 8192;
 
@@ -51,7 +50,7 @@ fn payload(line: &[u8], at: usize, bytes: &mut [u8]) -> Command {
 }
 
 fn fill(line: &[u8], at: usize) -> Command {
-    let n = Argument::from(at).decimal(line, MAX_PAYLOAD as u32);
+    let n = Argument::from(at).decimal(line, BENCH_PAYLOAD as u32);
     let seed = n.decimal(line, ANY);
     let end = seed.end(line);
     if end.reason != UNDERSTOOD {
@@ -76,7 +75,7 @@ fn cut(line: &[u8], at: usize) -> Command {
     let l = Argument::from(at).decimal(line, ANY);
     let msg_id = l.hex(line, MSG_ID_DIGITS);
     let number = msg_id.decimal(line, ANY);
-    let room = number.decimal(line, MAX_PAYLOAD as u32);
+    let room = number.decimal(line, BENCH_PAYLOAD as u32);
     let end = room.end(line);
     if end.reason != UNDERSTOOD {
         return Command::NotUnderstood(end.reason);
@@ -112,7 +111,7 @@ fn rejoin(line: &[u8], at: usize) -> Command {
 
 fn join(line: &[u8], at: usize, bytes: &mut [u8]) -> Command {
     let l = Argument::from(at).decimal(line, ANY);
-    let room = l.decimal(line, MAX_BUFFER as u32);
+    let room = l.decimal(line, MAX_PAYLOAD as u32);
     let read = room.bytes(line, bytes);
     if read.reason != UNDERSTOOD {
         return Command::NotUnderstood(read.reason);

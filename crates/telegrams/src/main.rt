@@ -3,11 +3,11 @@ mod command;
 mod fields;
 mod help;
 
+use command::BENCH_PAYLOAD;
 use command::Command;
-use command::MAX_BUFFER;
-use command::MAX_PAYLOAD;
 use command::MAX_TELEGRAM;
 use numbers::DONE;
+use sizes::MAX_PAYLOAD;
 use tel_join_state::JoinAnswer;
 use tel_join_state::Reassembly;
 use text_answers::LineKind;
@@ -417,9 +417,9 @@ fn turn(
     line: &[u8; MAX_LINE],
     length: usize,
     bytes: &mut [u8; MAX_TELEGRAM],
-    payload: &mut [u8; MAX_PAYLOAD],
-    room: &mut [u8; MAX_PAYLOAD],
-    buffer: &mut [u8; MAX_BUFFER],
+    payload: &mut [u8; BENCH_PAYLOAD],
+    room: &mut [u8; BENCH_PAYLOAD],
+    buffer: &mut [u8; MAX_PAYLOAD],
 ) -> Desk {
     let next = if_fits(desk, text, line, length, bytes, payload, room, buffer);
     let written = next.output;
@@ -432,9 +432,9 @@ fn play() {
     let mut line = [0u8; MAX_LINE];
     let mut text = [0u8; SPACE];
     let mut bytes = [0u8; MAX_TELEGRAM];
-    let mut payload = [0u8; MAX_PAYLOAD];
-    let mut room = [0u8; MAX_PAYLOAD];
-    let mut buffer = [0u8; MAX_BUFFER];
+    let mut payload = [0u8; BENCH_PAYLOAD];
+    let mut room = [0u8; BENCH_PAYLOAD];
+    let mut buffer = [0u8; MAX_PAYLOAD];
     let mut desk = Desk {
         payload: 0,
         joining: Reassembly::fresh(),

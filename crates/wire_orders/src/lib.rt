@@ -20,7 +20,7 @@ const MARK_FIRST: u8 = 0x4D;
 const MARK_SECOND: u8 = 0x4F;
 
 // Mark, kind and pass.
-const HEAD: usize = 7;
+pub const HEAD: usize = 7;
 
 // Where kind and pass stand in an order.
 const KIND: usize = 2;
@@ -28,10 +28,10 @@ const KIND: usize = 2;
 const PASS: usize = 3;
 
 // What stands behind the head of an ASK: the position.
-const ASK_BODY: usize = 1;
+pub const ASK_BODY: usize = 1;
 
 // What stands behind the head of a SET, the position first, and where the other fields stand in it.
-const SET_BODY: usize = 6;
+pub const SET_BODY: usize = 6;
 
 const SET_ADDRESS: usize = 1;
 
@@ -42,27 +42,27 @@ const SET_OLD: usize = 4;
 const SET_NEW: usize = 5;
 
 // The count that stands before pairs.
-const COUNT: usize = 1;
+pub const COUNT: usize = 1;
 
 // Block and number.
-const PAIR: usize = 2;
+pub const PAIR: usize = 2;
 
 // The kinds of orders.
-const ASK: u8 = 1;
+pub const ASK: u8 = 1;
 
-const SET: u8 = 2;
+pub const SET: u8 = 2;
 
-const OK: u8 = 3;
+pub const OK: u8 = 3;
 
-const NOTOK: u8 = 4;
+pub const NOTOK: u8 = 4;
 
-const NEW: u8 = 5;
+pub const NEW: u8 = 5;
 
-const INVALID: u8 = 6;
+pub const INVALID: u8 = 6;
 
-const WAIT_SHORT: u8 = 7;
+pub const WAIT_SHORT: u8 = 7;
 
-const WAIT_LONG: u8 = 8;
+pub const WAIT_LONG: u8 = 8;
 
 // An order that says nothing but its kind.
 pub enum Notice {

@@ -17,6 +17,13 @@ use wire_orders::SET;
 use wire_orders::SET_BODY;
 use wire_orders::WAIT_SHORT;
 
+// The lengths of an ASK and of a SET, and where the pairs of a NEW or an INVALID begin.
+const ASK_LENGTH: usize = HEAD + ASK_BODY;
+
+const SET_LENGTH: usize = HEAD + SET_BODY;
+
+const PAIRS: usize = HEAD + COUNT;
+
 // A byte as a number.
 fn wide(byte: u8) -> usize
     ensures { λ r. ⌜ r < 256 ⌝ }
@@ -30,9 +37,9 @@ fn length_of(kind: u8, count: usize) -> usize
     ensures { λ r. ⌜ 1 ≤ r ⌝ }
 {
     match kind {
-        ASK => HEAD + ASK_BODY,
-        SET => HEAD + SET_BODY,
-        NEW | INVALID => HEAD + COUNT + PAIR * count,
+        ASK => ASK_LENGTH,
+        SET => SET_LENGTH,
+        NEW | INVALID => PAIRS + PAIR * count,
         _ => HEAD,
     }
 }
@@ -62,20 +69,20 @@ pub fn pair(output: Output, text: &mut [u8; SPACE], block: u8, number: u8) -> Ou
 // The pairs of a NEW or an INVALID.
 fn pairs(output: Output, text: &mut [u8; SPACE], bytes: &[u8]) -> Output {
     let mut next = output;
-    let mut i = WITH_COUNT;
+    let mut i = PAIRS;
     while i < bytes.len() {
-        if bytes.len() - i < 2 {
+        if bytes.len() - i < PAIR {
             return next;
         }
         next = pair(next, text, bytes[i], bytes[i + 1]);
-        i += 2;
+        i += PAIR;
     }
     next
 }
 
 // An ASK in words.
 fn ask(output: Output, text: &mut [u8; SPACE], bytes: &[u8]) -> Output {
-    if bytes.len() < WITH_COUNT {
+    if bytes.len() < ASK_LENGTH {
         return output;
     }
     let values = [wide(bytes[7])];

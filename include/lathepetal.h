@@ -35,18 +35,19 @@ extern "C" {
 /* Sizes. */
 #define LATHEPETAL_MIN_SIZE 12       /* L, the payload size of a telegram: from here */
 #define LATHEPETAL_MAX_SIZE 45       /* to here */
-#define LATHEPETAL_MAX_UNITS 63      /* units with an entry: positions 1 to 63 */
+#define LATHEPETAL_MAX_UNITS 63      /* units with an entry: positions 1 and above */
 #define LATHEPETAL_MAX_PAIRS 16      /* pairs that an entry keeps */
-#define LATHEPETAL_MAX_LISTED 1008   /* places of a listing */
 #define LATHEPETAL_MIN_ROOM 512      /* the least room for orders, which is enough for each record */
-#define LATHEPETAL_MAX_TELEGRAM 51   /* the longest telegram, at L = 45 */
 #define LATHEPETAL_MAX_PAYLOAD 65535 /* the longest message, and the least join buffer */
+/* The places of a listing; the longest telegram. */
+#define LATHEPETAL_MAX_LISTED (LATHEPETAL_MAX_UNITS * LATHEPETAL_MAX_PAIRS)
+#define LATHEPETAL_MAX_TELEGRAM (6 + LATHEPETAL_MAX_SIZE)
 
 /* Numbers given back. Records are checked in the order 1 to 9, cutting 10, 11, 12, 13, joining 10, 13, 14, 15, 16, look-up 18, 17. */
 enum lathepetal_number {
     LATHEPETAL_DONE = 0,
-    LATHEPETAL_ORDER_ROOM_TOO_SHORT = 1, /* order room below 512 bytes */
-    LATHEPETAL_RECORD_MALFORMED = 2,     /* length, mark, kind, unused field not 0, N, count above 16, block 00, 01 or FF */
+    LATHEPETAL_ORDER_ROOM_TOO_SHORT = 1, /* order room below LATHEPETAL_MIN_ROOM bytes */
+    LATHEPETAL_RECORD_MALFORMED = 2,     /* length, mark, kind, unused field not 0, N, count above LATHEPETAL_MAX_PAIRS, block 00, 01, FF */
     LATHEPETAL_NOT_RUNNING = 3,          /* any kind but START while OFF */
     LATHEPETAL_ALREADY_RUNNING = 4,      /* START while running */
     LATHEPETAL_WRONG_PASS = 5,           /* ANSWER, NONE, DELAY: the pass is not the current one */
@@ -54,13 +55,13 @@ enum lathepetal_number {
     LATHEPETAL_POSITION_IGNORED = 7,     /* ANSWER, NONE: the position is IGNORED */
     LATHEPETAL_NOT_ASKED = 8,            /* NONE without open question; ANSWER in NOTOK without one; DELAY with none running */
     LATHEPETAL_NO_PASS_LEFT = 9,         /* the pass would exceed 4,294,967,295 */
-    LATHEPETAL_ILLEGAL_SIZE = 10,        /* L outside 12 to 45 */
-    LATHEPETAL_PAYLOAD_TOO_LONG = 11,    /* payload above 65,535 bytes */
+    LATHEPETAL_ILLEGAL_SIZE = 10,        /* L outside LATHEPETAL_MIN_SIZE to LATHEPETAL_MAX_SIZE */
+    LATHEPETAL_PAYLOAD_TOO_LONG = 11,    /* payload above LATHEPETAL_MAX_PAYLOAD bytes */
     LATHEPETAL_NO_SUCH_TELEGRAM = 12,    /* telegram number outside 1 to the count */
-    LATHEPETAL_ROOM_TOO_SHORT = 13,      /* lent room shorter than the telegram; join buffer below 65,535 bytes */
+    LATHEPETAL_ROOM_TOO_SHORT = 13,      /* lent room shorter than the telegram; join buffer below LATHEPETAL_MAX_PAYLOAD bytes */
     LATHEPETAL_TELEGRAM_MALFORMED = 14,  /* below 6 bytes, TelLen wrong or above L, TelID 1 to 3 with TelLen 0 */
     LATHEPETAL_TEL_ID_PASSED_OVER = 15,  /* TelID 4 or above */
-    LATHEPETAL_OUT_OF_SEQUENCE = 16,     /* TelID 2 or 3 with none open, other MsgID or counter; TelID 1 counter not 0; total above 65,535 */
+    LATHEPETAL_OUT_OF_SEQUENCE = 16,     /* TelID 2 or 3 with none open, other MsgID or counter; TelID 1 counter not 0; total above MAX_PAYLOAD */
     LATHEPETAL_NOT_LISTED = 17,          /* look-up: not listed */
     LATHEPETAL_NOT_OK = 18               /* look-up: the state is not OK */
 };
@@ -185,7 +186,7 @@ struct lathepetal_cut_outcome lathepetal_cut(size_t l, uint32_t msg_id, const ui
 /* A join state with no message open. */
 struct lathepetal_join_state lathepetal_join_fresh(void);
 
-/* Takes one telegram of a message into `buffer`, which has at least 65,535 bytes; or 10, 13, 14, 15 or 16. */
+/* Takes one telegram of a message into `buffer`, which has at least LATHEPETAL_MAX_PAYLOAD bytes; or 10, 13, 14, 15 or 16. */
 struct lathepetal_join_outcome lathepetal_join(struct lathepetal_join_state state, size_t l, uint8_t *buffer, size_t room,
                                                const uint8_t *telegram, size_t length);
 
@@ -196,7 +197,7 @@ struct lathepetal_join_outcome lathepetal_join(struct lathepetal_join_state stat
     LATHEPETAL_ASSERT(place_of_##type##_##field, offsetof(struct lathepetal_##type, field) == (at))
 
 LATHEPETAL_ASSERT(size_of_size_t, sizeof(size_t) == 8);
-LATHEPETAL_SIZE(entry, 40);
+LATHEPETAL_SIZE(entry, 8 + 2 * LATHEPETAL_MAX_PAIRS);
 LATHEPETAL_PLACE(entry, status, 2);
 LATHEPETAL_PLACE(entry, bad, 3);
 LATHEPETAL_PLACE(entry, silences, 4);
@@ -204,22 +205,22 @@ LATHEPETAL_PLACE(entry, place, 5);
 LATHEPETAL_PLACE(entry, tries, 6);
 LATHEPETAL_PLACE(entry, count, 7);
 LATHEPETAL_PLACE(entry, blocks, 8);
-LATHEPETAL_PLACE(entry, numbers, 24);
-LATHEPETAL_SIZE(picture, 2528);
+LATHEPETAL_PLACE(entry, numbers, 8 + LATHEPETAL_MAX_PAIRS);
+LATHEPETAL_SIZE(picture, 8 + LATHEPETAL_MAX_UNITS * (8 + 2 * LATHEPETAL_MAX_PAIRS));
 LATHEPETAL_PLACE(picture, state, 4);
 LATHEPETAL_PLACE(picture, delay, 5);
 LATHEPETAL_PLACE(picture, size, 6);
 LATHEPETAL_PLACE(picture, units, 7);
 LATHEPETAL_PLACE(picture, entries, 8);
-LATHEPETAL_SIZE(flat_listing, 5048);
+LATHEPETAL_SIZE(flat_listing, 8 + 5 * LATHEPETAL_MAX_LISTED);
 LATHEPETAL_PLACE(flat_listing, positions, 8);
-LATHEPETAL_PLACE(flat_listing, addresses, 1016);
-LATHEPETAL_PLACE(flat_listing, blocks, 3032);
-LATHEPETAL_PLACE(flat_listing, numbers, 4040);
+LATHEPETAL_PLACE(flat_listing, addresses, 8 + LATHEPETAL_MAX_LISTED);
+LATHEPETAL_PLACE(flat_listing, blocks, 8 + 3 * LATHEPETAL_MAX_LISTED);
+LATHEPETAL_PLACE(flat_listing, numbers, 8 + 4 * LATHEPETAL_MAX_LISTED);
 LATHEPETAL_SIZE(join_state, 16);
-LATHEPETAL_SIZE(fresh_outcome, 2532);
+LATHEPETAL_SIZE(fresh_outcome, 4 + sizeof(struct lathepetal_picture));
 LATHEPETAL_PLACE(fresh_outcome, picture, 4);
-LATHEPETAL_SIZE(record_outcome, 2544);
+LATHEPETAL_SIZE(record_outcome, 16 + sizeof(struct lathepetal_picture));
 LATHEPETAL_PLACE(record_outcome, length, 8);
 LATHEPETAL_PLACE(record_outcome, picture, 16);
 LATHEPETAL_SIZE(look_up_outcome, 4);

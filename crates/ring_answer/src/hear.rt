@@ -2,8 +2,7 @@
 ghost use mathlib.Core.Path.{_≡_};
 ghost use Prim.Native.Nat.{suc, _<_, min};
 ghost use Rattle.rules.specs.House.{maxUnits};
-ghost use Rattle.rules.specs.Picture.{Row, seatAt, others};
-ghost use Rattle.rules.specs.Renumber.{renumber};
+ghost use Rattle.rules.specs.Picture.{Row, seatAt};
 ghost use Rattle.rules.specs.Step.{statusAfter};
 ghost use Rattle.wire_pairs.specs.View.{pairsOf};
 ghost use Rattle.row_entry.specs.View.{rowOf, rowsOf};

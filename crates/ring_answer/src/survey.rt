@@ -1,6 +1,6 @@
 // One walk over the ring beside a node: who claims its address, and which of its pairs are held.
 ghost use mathlib.Core.Path.{_≡_};
-ghost use mathlib.Core.Bool.{cond, false};
+ghost use mathlib.Core.Bool.{cond};
 ghost use lib.Dec.{eqb};
 ghost use Rattle.rules.specs.Picture.{noRow};
 ghost use Rattle.wire_pairs.specs.View.{pairsOf};

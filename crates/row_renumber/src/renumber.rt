@@ -1,6 +1,5 @@
 // Which pair is renumbered to what.
 ghost use mathlib.Core.Path.{_≡_};
-ghost use Prim.Native.Nat.{_<_};
 ghost use Rattle.rules.specs.Renumber.{finished, renumber};
 ghost use Rattle.wire_pairs.specs.View.{pairOf, pairsOf};
 ghost use Rattle.row_judge.specs.Marks.{judgedOf};

@@ -39,7 +39,8 @@ extern "C" {
 #define LATHEPETAL_MAX_PAIRS 16      /* pairs that an entry keeps */
 #define LATHEPETAL_MIN_ROOM 512      /* the least room for orders, which is enough for each record */
 #define LATHEPETAL_MAX_PAYLOAD 65535 /* the longest message, and the least join buffer */
-/* The places of a listing; the longest telegram. */
+/* The entries of a picture, one for each unit; the places of a listing; the longest telegram. */
+#define LATHEPETAL_MAX_ENTRIES LATHEPETAL_MAX_UNITS
 #define LATHEPETAL_MAX_LISTED (LATHEPETAL_MAX_UNITS * LATHEPETAL_MAX_PAIRS)
 #define LATHEPETAL_MAX_TELEGRAM (6 + LATHEPETAL_MAX_SIZE)
 
@@ -61,7 +62,7 @@ enum lathepetal_number {
     LATHEPETAL_ROOM_TOO_SHORT = 13,      /* lent room shorter than the telegram; join buffer below LATHEPETAL_MAX_PAYLOAD bytes */
     LATHEPETAL_TELEGRAM_MALFORMED = 14,  /* below 6 bytes, TelLen wrong or above L, TelID 1 to 3 with TelLen 0 */
     LATHEPETAL_TEL_ID_PASSED_OVER = 15,  /* TelID 4 or above */
-    LATHEPETAL_OUT_OF_SEQUENCE = 16,     /* TelID 2 or 3 with none open, other MsgID or counter; TelID 1 counter not 0; total above MAX_PAYLOAD */
+    LATHEPETAL_OUT_OF_SEQUENCE = 16,     /* TelID 2 or 3 with none open, other MsgID or counter; TelID 1 counter not 0; total above the longest message */
     LATHEPETAL_NOT_LISTED = 17,          /* look-up: not listed */
     LATHEPETAL_NOT_OK = 18               /* look-up: the state is not OK */
 };
@@ -103,7 +104,7 @@ struct lathepetal_picture {
     uint8_t delay; /* 1 while a delay runs */
     uint8_t size;  /* L */
     uint8_t units; /* how many entries count: N - 1 */
-    struct lathepetal_entry entries[LATHEPETAL_MAX_UNITS];
+    struct lathepetal_entry entries[LATHEPETAL_MAX_ENTRIES];
 };
 
 /* The whole listing, by position and announced order: the first `count` places of each array, and zeros behind them. */
@@ -190,7 +191,7 @@ struct lathepetal_join_state lathepetal_join_fresh(void);
 struct lathepetal_join_outcome lathepetal_join(struct lathepetal_join_state state, size_t l, uint8_t *buffer, size_t room,
                                                const uint8_t *telegram, size_t length);
 
-/* The layout that the archive has: an array of length -1 is an error. */
+/* The layout that the archive has, by the sizes above: an array of length -1 is an error. */
 #define LATHEPETAL_ASSERT(name, holds) typedef char lathepetal_assert_##name[(holds) ? 1 : -1]
 #define LATHEPETAL_SIZE(type, size) LATHEPETAL_ASSERT(size_of_##type, sizeof(struct lathepetal_##type) == (size))
 #define LATHEPETAL_PLACE(type, field, at) \

@@ -136,7 +136,10 @@ module _ (s : Seat) (ps : List Pair) (few : length ps ≤ maxPairs) (good held :
       (sym (none-renumbered (freeNumber (collect pairsIn (others s)) ps) (placeOf (s .row .status)) (triesOf (s .row .status)) (judgedOf ps good)
       (omega (arith, e, ap length k, good-few (judgedOf ps good), judged-few ps good))))
 
-  pub row-for : (a : ℕ) {kept : List Pair} {n : Renumbering} {own r : Row} → own ≡ s .row → kept ≡ goods (judgedOf ps good) → n ≡ renumberingFor s ps
-      → r ≡ record { status = statusAfter a kept n; bad = own .bad; silences = 0 } → r ≡ listedRow s a ps
-  unfolding listedRow
-  row-for a o k n f = f ∙ (λ t. record { status = statusAfter a ((k ∙ ap goods all-judged) t) (n t); bad = o t .bad; silences = 0 })
+  pub pairs-for : {kept : List Pair} → kept ≡ goods (judgedOf ps good) → kept ≡ goods (judgedFor s ps)
+  pairs-for k = k ∙ ap goods all-judged
+
+pub row-for : (s : Seat) (ps : List Pair) (a : ℕ) {kept : List Pair} {n : Renumbering} {own r : Row} → own ≡ s .row → kept ≡ goods (judgedFor s ps) → n ≡ renumberingFor s ps
+    → r ≡ record { status = statusAfter a kept n; bad = own .bad; silences = 0 } → r ≡ listedRow s a ps
+unfolding listedRow
+row-for s ps a o k n f = f ∙ (λ t. record { status = statusAfter a (k t) (n t); bad = o t .bad; silences = 0 })

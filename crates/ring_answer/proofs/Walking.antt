@@ -1,7 +1,7 @@
 -- A walk over the entries beside one: the row at hand and those behind it, and the end.
 use Prim.Native.Nat.{ℕ, zero, suc, _+_, _<_, _≤_, min}
 use mathlib.Core.Path.{_≡_, refl, sym, _∙_, ap}
-use mathlib.Core.Bool.{Bool, true, false, cond, _||_}
+use mathlib.Core.Bool.{Bool, true, false, cond}
 use mathlib.Core.List.{List, [], _∷_}
 use native.Mathlib.Nat.{not-suc-le-zero, le-of-suc-le-suc}
 use native.Mathlib.Numerals.{add-one}
@@ -10,8 +10,6 @@ use borrow.Author.Tests.{eqb-true, eqb-false}
 use lib.Dec.{eqb}
 use lib.ListN.{length, getD, set, drop, length-set, drop-of-length-le}
 use lib.Seq.{drop-cons}
-use Rattle.laws.specs.Lists.{any}
-use Rattle.laws.specs.Views.{any-on}
 use Rattle.rules.specs.House.{maxUnits}
 use Rattle.rules.specs.Picture.{Row, noRow}
 use Rattle.row_entry.specs.declared.NodeEntry.{NodeEntry}
@@ -48,8 +46,3 @@ module _ (k i s : ℕ) (es : List NodeEntry) (full : length es ≡ maxUnits) whe
 
   pub beside-past : min k maxUnits ≤ i → drop i (beside s (rowsOf k es)) ≡ []
   beside-past l = drop-of-length-le (beside s (rowsOf k es)) {i = i} (omega (arith, rows-length es full k, length-set (rowsOf k es) s noRow))
-
--- something looked for in the rest of the rows, which are these
-pub seen-on : (f : Row → Bool) (b : Bool) {c whole : Bool} {r : Row} {rows rest : List Row} → rows ≡ r ∷ rest → c ≡ b || f r → (b || any f rows) ≡ whole
-    → (c || any f rest) ≡ whole
-seen-on f b {rest = rest} e h w = ap (λ (t : Bool). t || any f rest) h ∙ any-on f b e w

@@ -4,12 +4,14 @@ use mathlib.Core.Path.{_≡_}
 use mathlib.Core.List.{List, []}
 use Rattle.laws.specs.Lists.{collect}
 use Rattle.rules.specs.Picture.{Pair, Row, Picture, withRows, pairsIn, Seat, others, put}
-use Rattle.rules.specs.Renumber.{Judged, Renumbering, finished, freeNumber, renumber, placeOf, triesOf}
-use Rattle.rules.specs.Step.{Change, Response, setOrder, Verdict, barred, outside, duplicate, changed, fine, verdict, ignored, answer, renumberingFor, listedRow}
+use Rattle.rules.specs.Renumber.{Judged, goods, Renumbering, finished, freeNumber, renumber, placeOf, triesOf}
+use Rattle.rules.specs.Step.{Change, Response, setOrder, Verdict, barred, outside, duplicate, changed, fine, verdict, ignored, answer, judgedFor, renumberingFor, listedRow}
+use Rattle.wire_pairs.specs.View.{pairsOf}
 use Rattle.row_entry.specs.View.{rowOf}
 use Rattle.row_renumber.specs.Marks.{renumberingOf}
 use Rattle.ring_entries.specs.Verdicts.{verdictOf}
 use Rattle.ring_answer.specs.declared.hear.Heard.{Heard}
+use Rattle.ring_answer.specs.declared.hear.Kept.{Kept}
 
 -- the row in the seat becomes r, and n is sent to position x at address a
 abbrev pub replyChange : Seat → (x a : ℕ) → Row → Renumbering → Picture → Change
@@ -18,6 +20,11 @@ replyChange s x a r n p = record { picture = withRows (put s r) p; first = []; s
 -- the rules' renumbering, from judged pairs
 abbrev pub renumberingBy : Seat → List Pair → List Judged → Renumbering
 renumberingBy s ps js = renumber (freeNumber (collect pairsIn (others s)) ps) (placeOf (s .row .status)) (triesOf (s .row .status)) js
+
+-- what is kept of the announced pairs ps, and what is renumbered
+pub record Keeps (s : Seat) (ps : List Pair) (k : Kept) : Type 0 where
+  pub pairs : pairsOf (k .pairs) ≡ goods (judgedFor s ps)
+  pub step : renumberingOf (k .step) ≡ renumberingFor s ps
 
 -- the verdict on address a where the row in the seat announces it
 abbrev pub verdictFor : Seat → ℕ → Verdict

@@ -2,13 +2,16 @@
 ghost use mathlib.Core.Path.{_≡_};
 ghost use Prim.Native.Nat.{suc, _<_, min};
 ghost use Rattle.rules.specs.House.{maxUnits};
-ghost use Rattle.rules.specs.Picture.{Row, seatAt};
+ghost use Rattle.laws.specs.Lists.{collect};
+ghost use Rattle.rules.specs.Picture.{Row, others, pairsIn, seatAt};
+ghost use Rattle.rules.specs.Renumber.{finished};
 ghost use Rattle.rules.specs.Step.{statusAfter};
 ghost use Rattle.wire_pairs.specs.View.{pairsOf};
 ghost use Rattle.row_entry.specs.View.{rowOf, rowsOf};
 ghost use Rattle.row_judge.specs.Marks.{judgedOf};
 ghost use Rattle.row_renumber.specs.Marks.{renumberingOf};
-ghost use Rattle.ring_answer.specs.Hearing.{Hears, renumberingBy};
+ghost use Rattle.ring_answer.specs.Beside.{heldBy};
+ghost use Rattle.ring_answer.specs.Hearing.{Hears, Keeps, renumberingBy};
 use super::survey;
 use ring_entries::verdict::Verdict;
 use row_entry::LISTED;
@@ -27,6 +30,23 @@ pub struct Heard {
     pub verdict: Verdict,
     pub next: NodeEntry,
     pub step: Renumbering,
+}
+
+// Nothing is renumbered.
+fn unrenumbered(verdict: Verdict, next: NodeEntry) -> Heard
+    ensures { λ r. ⌜ (r .verdict ≡ verdict) × (r .next ≡ next) × (renumberingOf (r .step) ≡ finished) ⌝ }
+{
+    Heard {
+        verdict,
+        next,
+        step: Renumbering::Finished,
+    }
+}
+
+// The pairs that a node keeps, and what is renumbered.
+struct Kept {
+    pairs: Pairs,
+    step: Renumbering,
 }
 
 // The entry of a node whose address is kept: LISTED, or SETTING with its renumbering.
@@ -62,6 +82,31 @@ fn renumbering(
     renumber::renumber_from(count, others, announced, good, entry.place(), entry.tries())
 }
 
+// The announced pairs that the node keeps, and what is renumbered; `held` marks those that another entry keeps.
+fn keep(
+    count: usize,
+    entries: [NodeEntry; MAX_UNITS],
+    seat: usize,
+    announced: Pairs,
+    held: [bool; MAX_PAIRS],
+) -> Kept
+    requires { ⌜ (seat < min count maxUnits) × (held ≡ heldBy (collect pairsIn (others (seatAt (rowsOf count entries) (suc seat)))) (pairsOf announced)) ⌝ }
+    ensures { λ r. ⌜ Keeps (seatAt (rowsOf count entries) (suc seat)) (pairsOf announced) r ⌝ }
+{
+    let good = judge::judge(held, announced);
+    let kept = judge::good_pairs(announced, good);
+    if kept.len() == announced.len() {
+        return Kept {
+            pairs: kept,
+            step: Renumbering::Finished,
+        };
+    }
+    Kept {
+        pairs: kept,
+        step: renumbering(count, entries, seat, announced, good),
+    }
+}
+
 // What an announcement of the node in the seat comes to, by the verdict on its address.
 pub fn hear(
     count: usize,
@@ -77,43 +122,19 @@ pub fn hear(
     let seen = survey::survey_of(count, entries, seat, address, announced);
     let claims = seen.claims;
     let verdict = claims.verdict(entry, address);
-    let none = Renumbering::Finished;
     match verdict {
-        Verdict::Barred => Heard {
-            verdict,
-            next: entry.ignored(address),
-            step: none,
-        },
-        Verdict::Outside => Heard {
-            verdict,
-            next: entry,
-            step: none,
-        },
-        Verdict::Duplicate => Heard {
-            verdict,
-            next: entry,
-            step: none,
-        },
-        Verdict::Changed => Heard {
-            verdict,
-            next: entry,
-            step: none,
-        },
+        Verdict::Barred => unrenumbered(verdict, entry.ignored(address)),
+        Verdict::Outside => unrenumbered(verdict, entry),
+        Verdict::Duplicate => unrenumbered(verdict, entry),
+        Verdict::Changed => unrenumbered(verdict, entry),
         Verdict::Fine => {
             let held = seen.held;
-            let good = judge::judge(held, announced);
-            let kept = judge::good_pairs(announced, good);
-            if kept.len() == announced.len() {
-                return Heard {
-                    verdict,
-                    next: registered(address, kept, none, entry.bad),
-                    step: none,
-                };
-            }
-            let step = renumbering(count, entries, seat, announced, good);
+            let kept = keep(count, entries, seat, announced, held);
+            let pairs = kept.pairs;
+            let step = kept.step;
             Heard {
                 verdict,
-                next: registered(address, kept, step, entry.bad),
+                next: registered(address, pairs, step, entry.bad),
                 step,
             }
         }

@@ -13,6 +13,11 @@ use Rattle.row_entry.specs.declared.NodeEntry.{NodeEntry}
 use Rattle.row_entry.specs.View.{rowOf, rowsOf}
 use Rattle.row_entry.proofs.Arrays.{rows-here, rows-past, rows-length, rows-at, rows-set}
 
+-- something looked for in the rest of the rows, which are these
+pub seen-next : (f : Row → Bool) (b : Bool) {c whole : Bool} {r : Row} {rows rest : List Row} → rows ≡ r ∷ rest → c ≡ b || f r → (b || any f rows) ≡ whole
+    → (c || any f rest) ≡ whole
+seen-next f b {rest = rest} e h w = ap (λ (t : Bool). t || any f rest) h ∙ any-on f b e w
+
 module _ (k i : ℕ) (es : List NodeEntry) (full : length es ≡ maxUnits) where
   pub change-on : (f : Row → Row) (d e : NodeEntry) {whole : List Row} → i < min k maxUnits → rowOf e ≡ f (rowOf (getD es i d)) → mapFrom f i (rowsOf k es) ≡ whole
       → mapFrom f (i + 1) (rowsOf k (set es i e)) ≡ whole
@@ -26,7 +31,7 @@ module _ (k i : ℕ) (es : List NodeEntry) (full : length es ≡ maxUnits) where
 
   pub seen-on : (f : Row → Bool) (d : NodeEntry) (b : Bool) {c whole : Bool} → i < min k maxUnits → c ≡ b || f (rowOf (getD es i d)) → (b || any f (drop i (rowsOf k es))) ≡ whole
       → (c || any f (drop (i + 1) (rowsOf k es))) ≡ whole
-  seen-on f d b l h w = ap (λ (t : Bool). t || any f (drop (i + 1) (rowsOf k es))) h ∙ any-on f b (rows-here es full k i d l) w
+  seen-on f d b l h w = seen-next f b (rows-here es full k i d l) h w
 
   pub seen-end : (f : Row → Bool) (b : Bool) {whole : Bool} → min k maxUnits ≤ i → (b || any f (drop i (rowsOf k es))) ≡ whole → b ≡ whole
   seen-end f b l w = any-end f b (rows-past es full k i l) w

@@ -8,7 +8,7 @@ ghost use Rattle.ring_entries.specs.Verdicts.{verdictOf};
 use super::verdict::Verdict;
 use row_entry::NodeEntry;
 use wire_address::LogicalNodeAddress;
-use wire_pairs::tests::either;
+use wire_pairs::bools::either;
 
 // An entry bars the address; an entry keeps it.
 pub struct Claims {

@@ -10,7 +10,7 @@ use super::verdict::Verdict;
 use row_entry::NodeEntry;
 use sizes::MAX_UNITS;
 use wire_address::LogicalNodeAddress;
-use wire_pairs::tests::either;
+use wire_pairs::bools::either;
 
 // The announcement is counted for this entry too, which then stands at the limit.
 fn counts_at_limit(entry: NodeEntry, verdict: Verdict, address: LogicalNodeAddress) -> bool

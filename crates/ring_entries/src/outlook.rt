@@ -12,7 +12,7 @@ ghost use Rattle.ring_entries.specs.Tests.{isShort};
 use row_entry::MAX_SILENCES;
 use row_entry::NodeEntry;
 use sizes::MAX_UNITS;
-use wire_pairs::tests::either;
+use wire_pairs::bools::either;
 
 // A question is open; a node is SILENT; a SILENT node counts fewer silences than the most.
 pub struct Outlook {

@@ -2,7 +2,7 @@
 use Prim.Native.Nat.{ℕ, suc, _+_, _≤_}
 use mathlib.Core.Path.{_≡_, refl, sym, _∙_, ap}
 use mathlib.Core.Bool.{Bool, true, false, cond}
-use mathlib.Core.List.{List, [], _∷_, _++_, append-assoc, append-nil}
+use mathlib.Core.List.{List, [], _∷_, _++_, append-nil}
 use native.Mathlib.Numerals.{add-one}
 use lib.ListN.{length}
 use Rattle.laws.specs.Buffers.{Wrote, Owes, owes-on}
@@ -12,17 +12,9 @@ use Rattle.rules.specs.Order.{Order, ASK, encode, encodeAll}
 use Rattle.rules.specs.Step.{asks}
 use Rattle.rules.specs.Ending.{tell, tellRows}
 use Rattle.wire_orders.proofs.Tellings.{owes-room}
-
-pub collect-append : {A B : Type 0} (f : A → List B) (xs ys : List A) → collect f (xs ++ ys) ≡ collect f xs ++ collect f ys
-unfolding collect
-collect-append f [] ys = refl
-collect-append {B = B} f (x ∷ xs) ys = ap (λ (l : List B). f x ++ l) (collect-append f xs ys) ∙ sym (append-assoc (f x) (collect f xs) (collect f ys))
+use Rattle.wire_orders.proofs.Writing.{orders-append}
 
 module _ (pass : ℕ) where
-  encodeAll-append : (xs ys : List Order) → encodeAll pass (xs ++ ys) ≡ encodeAll pass xs ++ encodeAll pass ys
-  unfolding encodeAll
-  encodeAll-append xs ys = collect-append (encode pass) xs ys
-
   -- ASKs: one entry, and those behind it; none for no entries
   module _ (f : Row → Bool) where
     asks-on : (x : ℕ) {rows rest : List Row} {r : Row} → rows ≡ r ∷ rest
@@ -30,7 +22,7 @@ module _ (pass : ℕ) where
     unfolding asks
     asks-on x {rows} {rest} {r} e =
         rw (add-one x)
-        (ap (λ (l : List Row). encodeAll pass (asks f x l)) e ∙ ap (encodeAll pass) (go (f r)) ∙ encodeAll-append (asks f x (r ∷ [])) (asks f (suc x) rest))
+        (ap (λ (l : List Row). encodeAll pass (asks f x l)) e ∙ ap (encodeAll pass) (go (f r)) ∙ orders-append pass (asks f x (r ∷ [])) (asks f (suc x) rest))
       where
         go : (b : Bool) → cond b (ASK x ∷ asks f (suc x) rest) (asks f (suc x) rest) ≡ cond b (ASK x ∷ []) [] ++ asks f (suc x) rest
         go true = refl
@@ -64,7 +56,7 @@ module _ (pass : ℕ) where
         → encodeAll pass (tellRows order pairs size bs cs) ≡ encodeAll pass (tell order size (pairs b a)) ++ encodeAll pass (tellRows order pairs size bs′ cs′)
     unfolding tellRows
     rows-on pairs {bs′ = bs′} {cs′ = cs′} {b = b} {a = a} e f =
-        (λ t. encodeAll pass (tellRows order pairs size (e t) (f t))) ∙ encodeAll-append (tell order size (pairs b a)) (tellRows order pairs size bs′ cs′)
+        (λ t. encodeAll pass (tellRows order pairs size (e t) (f t))) ∙ orders-append pass (tell order size (pairs b a)) (tellRows order pairs size bs′ cs′)
 
     pub rows-room : {b c : List ℕ} {at i l : ℕ} {whole : List ℕ} (pairs : Row → Row → List Pair) {bs cs bs′ cs′ : List Row} {r s : Row} → bs ≡ r ∷ bs′
         → cs ≡ s ∷ cs′ → Owes b at whole i c (encodeAll pass (tellRows order pairs size bs cs)) → at + length whole ≤ l

@@ -94,8 +94,10 @@ pub fn tell_reply(
     step: Renumbering,
 ) -> usize
     requires { ⌜ (3 ≤ size)
-        × (length (encodeAll pass (replyTold (stateOf (state .0)) size (rowOf before) (rowOf after) (position .0) (address .0) (renumberingOf step))) ≤ length (now out)) ⌝ }
-    ensures { λ r. ⌜ Wrote (now (out .entry)) 0 (encodeAll pass (replyTold (stateOf (state .0)) size (rowOf before) (rowOf after) (position .0) (address .0) (renumberingOf step)))
+        × (length (encodeAll pass (replyTold (stateOf (state .0)) size (rowOf before) (rowOf after)
+        (position .0) (address .0) (renumberingOf step))) ≤ length (now out)) ⌝ }
+    ensures { λ r. ⌜ Wrote (now (out .entry)) 0
+        (encodeAll pass (replyTold (stateOf (state .0)) size (rowOf before) (rowOf after) (position .0) (address .0) (renumberingOf step)))
         r (now (out .exit)) ⌝ }
 {
     let told = tell_entry(out, pass, state, size, before, after);

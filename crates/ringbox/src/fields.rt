@@ -1,5 +1,6 @@
 // Records and orders in hexadecimal, with a blank between their fields.
-ghost use Prim.Native.Nat.{_≤_};
+ghost use Prim.Native.Nat.{_+_, _≤_};
+ghost use Rattle.text_in.specs.Lines.{maxLine};
 use text_in::MAX_LINE;
 use text_out::Output;
 use text_out::SPACE;
@@ -60,8 +61,8 @@ fn gap(order: bool, kind: u8, n: usize) -> bool {
 
 // Two digits, and a blank before them.
 fn widened(width: usize, gap: bool) -> usize
-    requires { ⌜ width ≤ 16384 ⌝ }
-    ensures { λ r. ⌜ r ≤ 16387 ⌝ }
+    requires { ⌜ width ≤ maxLine ⌝ }
+    ensures { λ r. ⌜ r ≤ maxLine + 3 ⌝ }
 {
     if gap {
         return width + 3;

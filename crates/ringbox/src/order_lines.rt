@@ -9,13 +9,18 @@ use wire_orders::ASK_BODY;
 use wire_orders::COUNT;
 use wire_orders::HEAD;
 use wire_orders::INVALID;
+use wire_orders::KIND;
 use wire_orders::NEW;
 use wire_orders::NOTOK;
 use wire_orders::OK;
-use wire_orders::PAIR;
 use wire_orders::SET;
+use wire_orders::SET_ADDRESS;
+use wire_orders::SET_BLOCK;
 use wire_orders::SET_BODY;
+use wire_orders::SET_NEW;
+use wire_orders::SET_OLD;
 use wire_orders::WAIT_SHORT;
+use wire_pairs::PAIR;
 
 // The lengths of an ASK and of a SET, and where the pairs of a NEW or an INVALID begin.
 const ASK_LENGTH: usize = HEAD + ASK_BODY;
@@ -53,7 +58,7 @@ fn order_end(bytes: &[u8], at: usize) -> usize
     if all - at <= HEAD {
         return all;
     }
-    let length = length_of(bytes[at + 2], wide(bytes[at + HEAD]));
+    let length = length_of(bytes[at + KIND], wide(bytes[at + HEAD]));
     if all - at <= length {
         return all;
     }
@@ -85,7 +90,7 @@ fn ask(output: Output, text: &mut [u8; SPACE], bytes: &[u8]) -> Output {
     if bytes.len() < ASK_LENGTH {
         return output;
     }
-    let values = [wide(bytes[7])];
+    let values = [wide(bytes[HEAD])];
     output.form(text, b"ASK position %d", &values)
 }
 
@@ -94,15 +99,15 @@ fn set(output: Output, text: &mut [u8; SPACE], bytes: &[u8]) -> Output {
     if bytes.len() < SET_LENGTH {
         return output;
     }
-    let block = wide(bytes[10]);
+    let block = wide(bytes[HEAD + SET_BLOCK]);
     let values = [
-        wide(bytes[7]),
-        wide(bytes[8]),
-        wide(bytes[9]),
+        wide(bytes[HEAD]),
+        wide(bytes[HEAD + SET_ADDRESS]),
+        wide(bytes[HEAD + SET_ADDRESS + 1]),
         block,
-        wide(bytes[11]),
+        wide(bytes[HEAD + SET_OLD]),
         block,
-        wide(bytes[12]),
+        wide(bytes[HEAD + SET_NEW]),
     ];
     output.form(
         text,

@@ -6,7 +6,7 @@ ghost use Rattle.wire_pairs.specs.View.{pairsOf};
 ghost use Rattle.row_judge.specs.Marks.{orEach};
 use sizes::MAX_PAIRS;
 use wire_pairs::Pairs;
-use wire_pairs::tests::either;
+use wire_pairs::bools::either;
 
 // Marks each announced pair that is kept here.
 pub fn mark_held(marks: &mut [bool; MAX_PAIRS], kept: Pairs, announced: Pairs)

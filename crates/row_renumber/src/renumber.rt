@@ -93,7 +93,8 @@ fn attempt(
     number: u8,
 ) -> Attempted
     requires { ⌜ NoneFree (freeFor count entries announced) full ⌝ }
-    ensures { λ r. ⌜ (renumberingOf (r .renumbering) ≡ attemptOf (freeFor count entries announced) place tries (record { pair = pairOf block number; good = good }))
+    ensures { λ r. ⌜ (renumberingOf (r .renumbering) ≡ attemptOf (freeFor count entries announced) place tries
+        (record { pair = pairOf block number; good = good }))
         × NoneFree (freeFor count entries announced) (r .full) ⌝ }
 {
     if good {

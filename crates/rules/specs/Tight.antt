@@ -1,4 +1,4 @@
--- Two lists that reach the bounds: the longest way to OK of a ring of two, and the longest orders of one event.
+-- A list that reaches the bound: the longest way to OK of a ring of two.
 use Prim.Native.Nat.{ℕ}
 use mathlib.Core.Path.{_≡_}
 use mathlib.Core.List.{List, [], _∷_, _++_}
@@ -33,11 +33,3 @@ pub record LongestWay : Type 0 where
   pub atBound : repliesBetween 12 longest 1 148 ≡ bound 2
   pub notBefore : pictureAt 12 longest 147 .state ≡ NotOk
   pub then : pictureAt 12 longest 148 .state ≡ Ok
-
--- an NCE that names 64 positions
-unfoldable pub fullRing : List Record
-fullRing = withRoom 8 0x4D45_01_00000000_40 ∷ withRoom 8 0x4D45_02_00000000_40 ∷ []
-
--- its orders have 511 bytes; proved in rules_full_size
-pub record LargestEvent : Type 0 where
-  pub bytes : length (written (offered (pictureAt 12 fullRing 1) (recordAt fullRing 1))) ≡ 511

@@ -3,7 +3,7 @@ use mathlib.Core.Path.{refl}
 use Rattle.rules.specs.Evaluate.{play}
 use Rattle.rules.specs.Claims.{pictureAt, recordAt}
 use Rattle.rules.specs.Table.{hex}
-use Rattle.rules.specs.Tight.{fullRing, LargestEvent}
+use Rattle.rules_full_size.specs.Largest.{fullRing, LargestEvent}
 
 pub largestEvent : LargestEvent
 unfolding play recordAt pictureAt hex fullRing

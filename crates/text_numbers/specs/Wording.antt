@@ -19,9 +19,9 @@ abbrev pub noWords : List ℕ
 noWords = codes "no words for this number"
 
 -- the words beside a number in a table
-unfoldable pub beside : Table → ℕ → List ℕ
-beside [] n = noWords
-beside (row ∷ rows) n = cond (eqb n (row .0)) (row .1) (beside rows n)
+unfoldable pub wordsBeside : Table → ℕ → List ℕ
+wordsBeside [] n = noWords
+wordsBeside (row ∷ rows) n = cond (eqb n (row .0)) (row .1) (wordsBeside rows n)
 
 -- what a record is refused for
 unfoldable pub ofRecord : Table
@@ -68,7 +68,7 @@ tableOf Telegram = ofTelegram
 tableOf LookUp = ofLookUp
 
 abbrev pub wordsOf : Asked → ℕ → List ℕ
-wordsOf asked n = beside (tableOf asked) n
+wordsOf asked n = wordsBeside (tableOf asked) n
 
 -- why a line is not understood, by the number of the reason
 unfoldable pub reasons : Table
@@ -85,4 +85,4 @@ reasons =
     ∷ []
 
 abbrev pub whyOf : ℕ → List ℕ
-whyOf n = beside reasons n
+whyOf n = wordsBeside reasons n

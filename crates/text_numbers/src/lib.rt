@@ -1,7 +1,7 @@
 // The words of a number: what a refusal means, by what was asked, and why a line is not understood.
 ghost use Rattle.text_out.specs.Puts.{Puts};
 ghost use Rattle.text_out.specs.Spelling.{lined};
-ghost use Rattle.text_numbers.specs.Wording.{noWords, beside, ofRecord, ofPicture, ofTelegram, ofLookUp, wordsOf, whyOf};
+ghost use Rattle.text_numbers.specs.Wording.{noWords, wordsBeside, ofRecord, ofPicture, ofTelegram, ofLookUp, wordsOf, whyOf};
 use numbers::ALREADY_RUNNING;
 use numbers::ILLEGAL_SIZE;
 use numbers::NO_PASS_LEFT;
@@ -54,7 +54,7 @@ fn no_words(output: Output, text: &mut [u8; SPACE]) -> Output
 
 // What a record is refused for.
 fn of_record(output: Output, text: &mut [u8; SPACE], number: u8) -> Output
-    ensures { λ r. ⌜ Puts output (now (text .entry)) (lined (beside ofRecord number)) r (now (text .exit)) ⌝ }
+    ensures { λ r. ⌜ Puts output (now (text .entry)) (lined (wordsBeside ofRecord number)) r (now (text .exit)) ⌝ }
 {
     match number {
         ORDER_ROOM_TOO_SHORT => output.form(text, b"order room below %d bytes\n", &[MIN_ROOM]),
@@ -72,7 +72,7 @@ fn of_record(output: Output, text: &mut [u8; SPACE], number: u8) -> Output
 
 // What a fresh picture is refused for.
 fn of_picture(output: Output, text: &mut [u8; SPACE], number: u8) -> Output
-    ensures { λ r. ⌜ Puts output (now (text .entry)) (lined (beside ofPicture number)) r (now (text .exit)) ⌝ }
+    ensures { λ r. ⌜ Puts output (now (text .entry)) (lined (wordsBeside ofPicture number)) r (now (text .exit)) ⌝ }
 {
     match number {
         ILLEGAL_SIZE => output.form(text, b"L is not %d to %d\n", &[MIN_SIZE, MAX_SIZE]),
@@ -82,7 +82,7 @@ fn of_picture(output: Output, text: &mut [u8; SPACE], number: u8) -> Output
 
 // What a telegram is refused for, when it is counted, cut or joined.
 fn of_telegram(output: Output, text: &mut [u8; SPACE], number: u8) -> Output
-    ensures { λ r. ⌜ Puts output (now (text .entry)) (lined (beside ofTelegram number)) r (now (text .exit)) ⌝ }
+    ensures { λ r. ⌜ Puts output (now (text .entry)) (lined (wordsBeside ofTelegram number)) r (now (text .exit)) ⌝ }
 {
     match number {
         ILLEGAL_SIZE => output.form(text, b"L is not %d to %d\n", &[MIN_SIZE, MAX_SIZE]),
@@ -98,7 +98,7 @@ fn of_telegram(output: Output, text: &mut [u8; SPACE], number: u8) -> Output
 
 // What a look-up is refused for.
 fn of_look_up(output: Output, text: &mut [u8; SPACE], number: u8) -> Output
-    ensures { λ r. ⌜ Puts output (now (text .entry)) (lined (beside ofLookUp number)) r (now (text .exit)) ⌝ }
+    ensures { λ r. ⌜ Puts output (now (text .entry)) (lined (wordsBeside ofLookUp number)) r (now (text .exit)) ⌝ }
 {
     match number {
         NOT_LISTED => output.line(text, b"not listed"),

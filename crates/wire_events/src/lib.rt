@@ -14,6 +14,7 @@ use sizes::MAX_NODES;
 use sizes::MAX_PAIRS;
 use wire_address::LogicalNodeAddress;
 use wire_address::NodePosition;
+use wire_pairs::PAIR;
 use wire_pairs::Pairs;
 
 // The mark that an event begins with.
@@ -26,9 +27,6 @@ const HEAD: usize = 8;
 
 // The head of an ANSWER, its address and its count.
 const ANSWER_HEAD: usize = 11;
-
-// Block and number.
-const PAIR: usize = 2;
 
 // Where the fields of an event stand.
 const KIND: usize = 2;

@@ -12,6 +12,7 @@ ghost use Rattle.wire_pairs.specs.View.{pairsFrom, pairsOf};
 ghost use Rattle.wire_orders.specs.View.{noticeOf, deltaOf, headBytes, headSize, pairSize, listSize, part};
 use wire_address::LogicalNodeAddress;
 use wire_address::NodePosition;
+use wire_pairs::PAIR;
 use wire_pairs::Pairs;
 
 // The mark that an order begins with.
@@ -23,7 +24,7 @@ const MARK_SECOND: u8 = 0x4F;
 pub const HEAD: usize = 7;
 
 // Where kind and pass stand in an order.
-const KIND: usize = 2;
+pub const KIND: usize = 2;
 
 const PASS: usize = 3;
 
@@ -33,19 +34,16 @@ pub const ASK_BODY: usize = 1;
 // What stands behind the head of a SET, the position first, and where the other fields stand in it.
 pub const SET_BODY: usize = 6;
 
-const SET_ADDRESS: usize = 1;
+pub const SET_ADDRESS: usize = 1;
 
-const SET_BLOCK: usize = 3;
+pub const SET_BLOCK: usize = 3;
 
-const SET_OLD: usize = 4;
+pub const SET_OLD: usize = 4;
 
-const SET_NEW: usize = 5;
+pub const SET_NEW: usize = 5;
 
 // The count that stands before pairs.
 pub const COUNT: usize = 1;
-
-// Block and number.
-pub const PAIR: usize = 2;
 
 // The kinds of orders.
 pub const ASK: u8 = 1;

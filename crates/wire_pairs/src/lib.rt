@@ -1,5 +1,5 @@
 // Pairs of block and number (FBlockID, InstID), as many as a node keeps or announces.
-pub mod tests; // tests.rt: tests put together
+pub mod bools; // bools.rt: tests put together
 
 ghost use mathlib.Core.Path.{_≡_};
 ghost use mathlib.Core.Bool.{cond, not};
@@ -11,6 +11,9 @@ ghost use Rattle.rules.specs.Picture.{samePair, holds};
 ghost use Rattle.rules.specs.Ending.{missing};
 ghost use Rattle.wire_pairs.specs.View.{pairOf, pairsOf};
 use sizes::MAX_PAIRS;
+
+// A pair takes two bytes of a record or an order: block and number.
+pub const PAIR: usize = 2;
 
 // The first `count` places hold pairs.
 pub struct Pairs {

@@ -1,13 +1,13 @@
 -- Each row, and a number without one.
 use borrow.Author.Needs.{needs}
 use Rattle.text_out.specs.Spelling.{filledFrom, valueOf, decimalOf, widthOf, placesBy}
-use Rattle.text_numbers.specs.Wording.{beside, ofRecord}
+use Rattle.text_numbers.specs.Wording.{wordsBeside, ofRecord}
 use Rattle.text_numbers.proofs.Tables.{told}
 use Rattle.text_numbers.proofs.of_record.Statement.{statement}
 use Rattle.text_numbers.proofs.of_record.Tie as tie
 
 pub of-record-spec : {M : Type 1} → statement M
-unfolding ofRecord beside filledFrom valueOf decimalOf widthOf placesBy
+unfolding ofRecord wordsBeside filledFrom valueOf decimalOf widthOf placesBy
 of-record-spec =
     tie.close
     (tie.spec

@@ -1,13 +1,13 @@
 -- Each row, and a number without one.
 use borrow.Author.Needs.{needs}
 use Rattle.text_out.specs.Spelling.{filledFrom, valueOf, decimalOf, widthOf, placesBy}
-use Rattle.text_numbers.specs.Wording.{beside, ofTelegram}
+use Rattle.text_numbers.specs.Wording.{wordsBeside, ofTelegram}
 use Rattle.text_numbers.proofs.Tables.{told}
 use Rattle.text_numbers.proofs.of_telegram.Statement.{statement}
 use Rattle.text_numbers.proofs.of_telegram.Tie as tie
 
 pub of-telegram-spec : {M : Type 1} → statement M
-unfolding ofTelegram beside filledFrom valueOf decimalOf widthOf placesBy
+unfolding ofTelegram wordsBeside filledFrom valueOf decimalOf widthOf placesBy
 of-telegram-spec =
     tie.close
     (tie.spec

@@ -1,13 +1,13 @@
 -- Each row, and a number without one.
 use borrow.Author.Needs.{needs}
 use Rattle.text_out.specs.Spelling.{filledFrom, valueOf, decimalOf, widthOf, placesBy}
-use Rattle.text_numbers.specs.Wording.{beside, reasons}
+use Rattle.text_numbers.specs.Wording.{wordsBeside, reasons}
 use Rattle.text_numbers.proofs.Tables.{told}
 use Rattle.text_numbers.proofs.why.Statement.{statement}
 use Rattle.text_numbers.proofs.why.Tie as tie
 
 pub why-spec : {M : Type 1} → statement M
-unfolding reasons beside filledFrom valueOf decimalOf widthOf placesBy
+unfolding reasons wordsBeside filledFrom valueOf decimalOf widthOf placesBy
 why-spec =
     tie.close
     (tie.spec

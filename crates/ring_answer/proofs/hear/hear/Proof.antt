@@ -1,23 +1,20 @@
 -- By the verdict on the address; then the pairs are judged, and a bad one is renumbered.
-use Prim.Native.Nat.{ℕ, suc, _<_, _≤_, min}
-use Rattle.ring_answer.proofs.Hearing.{hears, row-for, set-for, set-none, verdict-at}
+use Prim.Native.Nat.{ℕ, suc, _<_}
+use Rattle.ring_answer.proofs.Hearing.{hears, row-for, verdict-at}
 use Rattle.ring_answer.specs.Beside.{heldBy}
-use Rattle.ring_answer.specs.Hearing.{Hears, renumberingBy, rowAfter, stepAfter, verdictFor}
+use Rattle.ring_answer.specs.Hearing.{Hears, rowAfter, stepAfter, verdictFor}
 use Rattle.ring_answer.specs.declared.hear.Heard.{Heard}
 use Rattle.ring_entries.proofs.Seats.{seat-own, seat-pairs}
 use Rattle.ring_entries.specs.Verdicts.{verdictOf}
-use Rattle.row_judge.specs.Marks.{judgedOf, orEach}
+use Rattle.row_judge.specs.Marks.{orEach}
 use Rattle.laws.specs.Lists.{collect}
 use Rattle.row_entry.proofs.Arrays.{rows-length}
 use Rattle.row_entry.specs.View.{rowOf, rowsOf}
 use Rattle.row_entry.specs.declared.NodeEntry.{NodeEntry}
 use Rattle.row_renumber.specs.Marks.{renumberingOf}
-use Rattle.wire_pairs.proofs.Arrays.{pairs-length}
 use Rattle.wire_pairs.specs.View.{pairsOf}
-use Rattle.wire_pairs.specs.declared.Pairs.{Pairs}
 use Rattle.rules.specs.House.{maxPairs, maxUnits}
-use Rattle.rules.specs.Renumber.{Renumbering, finished}
-use Rattle.rules.specs.Step.{Verdict, fine, ignored, renumberingFor, statusAfter}
+use Rattle.rules.specs.Step.{Verdict, ignored}
 use Rattle.rules.specs.Picture.{Pair, Row, Seat, holds, keptBy, noRow, others, pairsIn, seatAt}
 use Rattle.rules.specs.Picture as rules
 use lib.ListN.{getD, length, replicate}
@@ -90,125 +87,77 @@ enum-told c = search needs
 ignored-requires : tie.Need-ignored-requires
 ignored-requires c κs = search needs
 
+unrenumbered-requires : tie.Need-unrenumbered-requires
+unrenumbered-requires c κs = search needs
+
 enum-told-2 : tie.Need-enum-told-2
 enum-told-2 c = search needs
+
+unrenumbered-requires-2 : tie.Need-unrenumbered-requires-2
+unrenumbered-requires-2 c κs = search needs
 
 enum-told-3 : tie.Need-enum-told-3
 enum-told-3 c = search needs
 
+unrenumbered-requires-3 : tie.Need-unrenumbered-requires-3
+unrenumbered-requires-3 c κs = search needs
+
 enum-told-4 : tie.Need-enum-told-4
 enum-told-4 c = search needs
+
+unrenumbered-requires-4 : tie.Need-unrenumbered-requires-4
+unrenumbered-requires-4 c κs = search needs
 
 enum-told-5 : tie.Need-enum-told-5
 enum-told-5 c = search needs
 
-judge-requires : tie.Need-judge-requires
-judge-requires c κs = search needs
-
-good-pairs-requires : tie.Need-good-pairs-requires
-good-pairs-requires c κs = search needs
-
--- once the good pairs are found
-module _ (g : tie.After-good-pairs) where
-  abbrev from : tie.After-verdict
-  from = g .before .before .before .before .before
-
-  abbrev ann : Pairs
-  ann = startOf from .args .announced
-
-  ann-length : length (announced from) ≡ min (ann .count) maxPairs
-  unfolding pairsOf
-  ann-length =
-      let blocks : length (ann .blocks) ≡ maxPairs = search (needs, startOf from .good) in
-      let numbers : length (ann .numbers) ≡ maxPairs = search (needs, startOf from .good) in
-      pairs-length _ (ann .blocks) (ann .numbers) blocks numbers (ann .count)
-
-  few : length (announced from) ≤ maxPairs
-  few = omega (arith, ann-length)
-
-  abbrev kept : Pairs
-  kept = g .good-pairs .result
-
-  kept-length : length (pairsOf kept) ≡ min (kept .count) maxPairs
-  unfolding pairsOf
-  kept-length =
-      let b = g .good-pairs .ok .1 .1 .1 in
-      let blocks : length (kept .blocks) ≡ maxPairs = search (needs, b) in
-      let n = g .good-pairs .ok .1 .1 .1 .1 in
-      let numbers : length (kept .numbers) ≡ maxPairs = search (needs, n) in
-      pairs-length _ (kept .blocks) (kept .numbers) blocks numbers (kept .count)
-
-  none-set : length (pairsOf kept) ≡ length (announced from) → finished ≡ renumberingFor (taken from) (announced from)
-  none-set = set-none (taken from) (announced from) few (g .before .judge .result) (from .before .before .survey-of .result .held) (held-by from) (g .before .judge .ensures) (g .good-pairs .ensures)
-
-  set-at : {n : Renumbering} → n ≡ renumberingBy (taken from) (announced from) (judgedOf (announced from) (g .before .judge .result)) → n ≡ renumberingFor (taken from) (announced from)
-  set-at = set-for (taken from) (announced from) few (g .before .judge .result) (from .before .before .survey-of .result .held) (held-by from) (g .before .judge .ensures)
-
-  -- another entry and a renumbering, as the rules have them
-  becomes : (d : NodeEntry) {h : Heard} → verdictOf (h .verdict) ≡ verdictOf (from .verdict .result) → renumberingOf (h .step) ≡ renumberingFor (taken from) (announced from)
-      → rowOf (h .next) ≡ record { status = statusAfter (address from) (pairsOf kept) (renumberingOf (h .step)); bad = rowOf (getD (startOf from .args .t2) (startOf from .args .seat) d) .bad; silences = 0 }
-      → Hears (taken from) (address from) (announced from) h
-  unfolding rowAfter stepAfter
-  becomes d w n r =
-      heard from {w = fine} (ap verdictOf (g .before .before .before .enum-told5 .given .1)) w
-      (row-for (taken from) (announced from) few (g .before .judge .result) (from .before .before .survey-of .result .held) (held-by from) (g .before .judge .ensures) (address from) (own from d) (g .good-pairs .ensures) n r) n
-
-len-requires : tie.Need-len-requires
-len-requires c κs = search needs
-
-len-requires-2 : tie.Need-len-requires-2
-len-requires-2 c κs = search needs
+keep-requires : tie.Need-keep-requires
+keep-requires c κs = let v = c .before .before .before in (startOf v .pre, held-by v)
 
 registered-requires : tie.Need-registered-requires
 registered-requires c κs = search needs
 
 returns : tie.Need-returns
-unfolding rowOf
+unfolding rowAfter stepAfter
 returns c =
-    let at-if1 = c .before in
-    let at-len-2 = at-if1 .before in
-    let at-len = at-len-2 .before in
-    let g = at-len .before in
-    let none = none-set g (omega (arith, kept-length g, ann-length g, at-len .len .ensures, at-len-2 .len2 .ensures, at-if1 .if1 .taken)) in
-    becomes g _ refl none (c .registered .ensures)
-
-renumbering-requires : tie.Need-renumbering-requires
-renumbering-requires c κs = search needs
-
-registered-requires-2 : tie.Need-registered-requires-2
-registered-requires-2 c κs = search needs
+    let at-ignored = c .before in
+    let at-enum-told = at-ignored .before in
+    let v = at-enum-told .before .before in
+    let u = c .unrenumbered .ensures in
+    heard v (ap verdictOf (at-enum-told .enum-told .given .1)) (ap verdictOf (u .0)) (ap rowOf (u .1) ∙ at-ignored .ignored .ensures ∙ ap (ignored (address v)) (own v _)) (u .2)
 
 returns-2 : tie.Need-returns-2
 unfolding rowAfter stepAfter
 returns-2 c =
     let at-enum-told = c .before in
     let v = at-enum-told .before .before in
-    heard v (ap verdictOf (at-enum-told .enum-told .given .1)) refl (c .ignored .ensures ∙ ap (ignored (address v)) (own v _)) refl
+    let u = c .unrenumbered2 .ensures in
+    heard v (ap verdictOf (at-enum-told .enum-told2 .given .1)) (ap verdictOf (u .0)) (ap rowOf (u .1) ∙ own v _) (u .2)
 
 returns-3 : tie.Need-returns-3
 unfolding rowAfter stepAfter
 returns-3 c =
-    let v = c .before .before in
-    heard v (ap verdictOf (c .enum-told2 .given .1)) refl (own v _) refl
+    let at-enum-told = c .before in
+    let v = at-enum-told .before .before in
+    let u = c .unrenumbered3 .ensures in
+    heard v (ap verdictOf (at-enum-told .enum-told3 .given .1)) (ap verdictOf (u .0)) (ap rowOf (u .1) ∙ own v _) (u .2)
 
 returns-4 : tie.Need-returns-4
 unfolding rowAfter stepAfter
 returns-4 c =
-    let v = c .before .before in
-    heard v (ap verdictOf (c .enum-told3 .given .1)) refl (own v _) refl
+    let at-enum-told = c .before in
+    let v = at-enum-told .before .before in
+    let u = c .unrenumbered4 .ensures in
+    heard v (ap verdictOf (at-enum-told .enum-told4 .given .1)) (ap verdictOf (u .0)) (ap rowOf (u .1) ∙ own v _) (u .2)
 
 returns-5 : tie.Need-returns-5
-unfolding rowAfter stepAfter
+unfolding rowAfter stepAfter rowOf
 returns-5 c =
-    let v = c .before .before in
-    heard v (ap verdictOf (c .enum-told4 .given .1)) refl (own v _) refl
-
-returns-6 : tie.Need-returns-6
-unfolding rowOf
-returns-6 c =
-    let at-renumbering = c .before in
-    let g = at-renumbering .before .before .before .before in
-    becomes g _ refl (set-at g (at-renumbering .renumbering .ensures)) (c .registered2 .ensures)
+    let at-keep = c .before .before in
+    let at-enum-told = at-keep .before .before in
+    let v = at-enum-told .before .before in
+    let k = at-keep .keep .ensures in
+    heard v (ap verdictOf (at-enum-told .enum-told5 .given .1)) refl (row-for (taken v) (announced v) (address v) (own v _) (k .pairs) (k .step) (c .registered .ensures)) (k .step)
 
 pub hear-spec : {M : Type 1} → statement M
 hear-spec =
@@ -220,20 +169,18 @@ hear-spec =
     verdict-requires
     enum-told
     ignored-requires
+    unrenumbered-requires
     enum-told-2
+    unrenumbered-requires-2
     enum-told-3
+    unrenumbered-requires-3
     enum-told-4
+    unrenumbered-requires-4
     enum-told-5
-    judge-requires
-    good-pairs-requires
-    len-requires
-    len-requires-2
+    keep-requires
     registered-requires
     returns
-    renumbering-requires
-    registered-requires-2
     returns-2
     returns-3
     returns-4
-    returns-5
-    returns-6)
+    returns-5)

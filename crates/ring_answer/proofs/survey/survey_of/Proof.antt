@@ -8,7 +8,8 @@ use Rattle.row_judge.proofs.Holding.{held-end, held-on}
 use Rattle.row_judge.specs.Marks.{orEach}
 use Rattle.rules.specs.House.{maxPairs, maxUnits}
 use Rattle.rules.specs.Picture.{bars, holds, keeps, pairsIn}
-use Rattle.ring_answer.proofs.Walking.{beside-here, beside-past, seen-on}
+use Rattle.ring_entries.proofs.Loops.{seen-next}
+use Rattle.ring_answer.proofs.Walking.{beside-here, beside-past}
 use Rattle.ring_answer.specs.Beside.{beside}
 use borrow.Author.Needs.{needs}
 use lib.ListN.{drop, length, replicate}
@@ -77,8 +78,8 @@ loop-again c =
     let here = beside-here (start .args .count) (at-loop .loop .i) (start .args .seat) (start .args .t2) (w .1) _ l (at-seen-at .seen-at .ensures) in (
       omega arith,
       w .1,
-      seen-on (bars a) (at-loop .loop .claims .barred) here (at-with .with .ensures .0) (w .2),
-      seen-on (keeps a) (at-loop .loop .claims .kept) here (at-with .with .ensures .1) (w .3),
+      seen-next (bars a) (at-loop .loop .claims .barred) here (at-with .with .ensures .0) (w .2),
+      seen-next (keeps a) (at-loop .loop .claims .kept) here (at-with .with .ensures .1) (w .3),
       held-on (at-loop .loop .marks) (pairsOf (start .args .announced)) here (at-pairs .pairs .ensures) (c .mark-held .ensures) (w .4),
     )
 

@@ -9,15 +9,6 @@ use mathlib.Core.List.{[], _∷_}
 use Rattle.ring_ending.proofs.close.Statement.{statement}
 use Rattle.ring_ending.proofs.close.Tie as tie
 
-becomes-ok-requires : tie.Need-becomes-ok-requires
-becomes-ok-requires c κs = search needs
-
-settled-requires : tie.Need-settled-requires
-settled-requires c κs = search needs
-
-starts-delay-requires : tie.Need-starts-delay-requires
-starts-delay-requires c κs = search needs
-
 write-ok-requires : tie.Need-write-ok-requires
 write-ok-requires c κs =
     let at-starts-delay = c .before in
@@ -38,12 +29,6 @@ write-wait-requires c κs =
     let a = start .args in
     let e = are-orders (stateOf (a .state .0)) (runs (a .delay .0)) (a .«open») (a .silent) (a .short) (at-becomes-ok .becomes-ok .ensures) (at-settled .settled .ensures) (at-starts-delay .starts-delay .ensures) in
     room-second (a .pass) (cond (at-becomes-ok .becomes-ok .result) (OK ∷ []) []) (cond (at-starts-delay .starts-delay .result) (cond (a .short) WAIT-SHORT WAIT-LONG ∷ []) []) e (a .at) (a .out .now) (start .pre) (at-write-ok .write-ok .ensures)
-
-delayed-requires : tie.Need-delayed-requires
-delayed-requires c κs = search needs
-
-same-length : tie.Need-same-length
-same-length c = search needs
 
 returns : tie.Need-returns
 returns c =
@@ -67,12 +52,5 @@ returns c =
 pub close-spec : {M : Type 1} → statement M
 close-spec =
     tie.close
-    (tie.spec
-    becomes-ok-requires
-    settled-requires
-    starts-delay-requires
-    write-ok-requires
-    write-wait-requires
-    delayed-requires
-    same-length
+    (tie.spec (search needs) (search needs) (search needs) write-ok-requires write-wait-requires (search needs) (search needs)
     returns)

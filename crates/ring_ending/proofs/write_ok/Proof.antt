@@ -11,9 +11,6 @@ write-notice-requires c κs =
     let start = at-if1 .before .before in
     room-if (start .args .pass) OK (start .args .ok) (start .args .at) (at-if1 .if1 .taken) (start .pre)
 
-same-length : tie.Need-same-length
-same-length c = search needs
-
 returns : tie.Need-returns
 returns c =
     let at-write-notice = c .before .before in
@@ -27,4 +24,6 @@ returns-2 c =
     wrote-else (start .args .pass) OK (start .args .ok) (start .args .out .now) (start .args .at) (c .if1 .left)
 
 pub write-ok-spec : {M : Type 1} → statement M
-write-ok-spec = tie.close (tie.spec write-notice-requires same-length returns returns-2)
+write-ok-spec =
+    tie.close
+    (tie.spec write-notice-requires (search needs) returns returns-2)

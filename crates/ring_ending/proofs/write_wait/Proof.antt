@@ -17,9 +17,6 @@ write-notice-requires c κs =
     let start = at-if1 .before .before in
     let e : cond (start .args .short) WAIT-SHORT WAIT-LONG ≡ WAIT-SHORT = ap (λ (t : Bool). cond t WAIT-SHORT WAIT-LONG) (at-if2 .if2 .taken) in subst (λ (o : Order). start .args .at + length (encode (start .args .pass) o) ≤ length (start .args .out .now)) e (room-if (start .args .pass) (cond (start .args .short) WAIT-SHORT WAIT-LONG) (start .args .starts) (start .args .at) (at-if1 .if1 .taken) (start .pre))
 
-same-length : tie.Need-same-length
-same-length c = search needs
-
 returns : tie.Need-returns
 returns c =
     let at-write-notice = c .before .before in
@@ -34,9 +31,6 @@ write-notice-requires-2 c κs =
     let at-if1 = at-if2 .before in
     let start = at-if1 .before .before in
     let e : cond (start .args .short) WAIT-SHORT WAIT-LONG ≡ WAIT-LONG = ap (λ (t : Bool). cond t WAIT-SHORT WAIT-LONG) (at-if2 .if2 .left) in subst (λ (o : Order). start .args .at + length (encode (start .args .pass) o) ≤ length (start .args .out .now)) e (room-if (start .args .pass) (cond (start .args .short) WAIT-SHORT WAIT-LONG) (start .args .starts) (start .args .at) (at-if1 .if1 .taken) (start .pre))
-
-same-length-2 : tie.Need-same-length-2
-same-length-2 c = search needs
 
 returns-2 : tie.Need-returns-2
 returns-2 c =
@@ -54,11 +48,4 @@ returns-3 c =
 pub write-wait-spec : {M : Type 1} → statement M
 write-wait-spec =
     tie.close
-    (tie.spec
-    write-notice-requires
-    same-length
-    returns
-    write-notice-requires-2
-    same-length-2
-    returns-2
-    returns-3)
+    (tie.spec write-notice-requires (search needs) returns write-notice-requires-2 (search needs) returns-2 returns-3)

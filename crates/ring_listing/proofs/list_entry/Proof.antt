@@ -20,12 +20,6 @@ Inv-loop positions₀ addresses₀ blocks₀ numbers₀ at position pairs n addr
 abbrev μ-loop : tie.MeasureT-loop
 μ-loop positions₀ addresses₀ blocks₀ numbers₀ at position pairs n address end₀ i₀ positions addresses blocks numbers end i = n - i
 
-pairs-requires : tie.Need-pairs-requires Inv-loop μ-loop
-pairs-requires c κs = search needs
-
-len-requires : tie.Need-len-requires Inv-loop μ-loop
-len-requires c κs = search needs
-
 loop-holds : tie.Need-loop-holds Inv-loop μ-loop
 loop-holds c = (omega arith, omega arith, refl, refl, refl, refl, search needs, search needs, stored-start _ _ _ _ _ _)
 
@@ -88,9 +82,6 @@ add-i c =
     let at-len = at-loop-test .before .before .before in
     omega (arith, at-len .len .ensures, at-loop-test .loop-test .taken)
 
-loop-less : tie.Need-loop-less Inv-loop μ-loop
-loop-less c = search needs
-
 loop-again : tie.Need-loop-again Inv-loop μ-loop
 unfolding pairsOf
 loop-again c =
@@ -131,25 +122,6 @@ returns c =
 pub list-entry-spec : {M : Type 1} → statement M
 list-entry-spec =
     tie.close
-    (tie.spec
-    Inv-loop
-    μ-loop
-    pairs-requires
-    len-requires
-    loop-holds
-    slice-write-positions
-    mul-addresses
-    slice-write-addresses
-    element-copy-out-blocks
-    slice-write-blocks
-    element-copy-out-numbers
-    slice-write-numbers
-    add-end
-    add-i
-    loop-less
-    loop-again
-    same-length
-    same-length-2
-    same-length-3
-    same-length-4
-    returns)
+    (tie.spec Inv-loop μ-loop (search needs) (search needs) loop-holds slice-write-positions mul-addresses slice-write-addresses
+    element-copy-out-blocks slice-write-blocks element-copy-out-numbers slice-write-numbers add-end add-i (search needs)
+    loop-again same-length same-length-2 same-length-3 same-length-4 returns)

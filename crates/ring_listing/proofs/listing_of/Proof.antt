@@ -18,9 +18,6 @@ Inv-loop count entries positions₀ addresses₀ blocks₀ numbers₀ n end₀ i
 abbrev μ-loop : tie.MeasureT-loop
 μ-loop count entries positions₀ addresses₀ blocks₀ numbers₀ n end₀ i₀ positions addresses blocks numbers end i = n - i
 
-clamp-requires : tie.Need-clamp-requires Inv-loop μ-loop
-clamp-requires c κs = search needs
-
 loop-holds : tie.Need-loop-holds Inv-loop μ-loop
 loop-holds c = (omega arith, omega arith, search needs, search needs, search needs, search needs, search needs, stored-start _ _ _ _ _ _)
 
@@ -33,18 +30,6 @@ add-position : tie.Need-add-position Inv-loop μ-loop
 add-position c =
     let at-clamp = c .before .before in
     omega (arith, at-clamp .clamp .ensures, c .loop-test .taken)
-
-slice-aggregate-list-entry : tie.Need-slice-aggregate-list-entry Inv-loop μ-loop
-slice-aggregate-list-entry c = search needs
-
-slice-aggregate-list-entry-2 : tie.Need-slice-aggregate-list-entry-2 Inv-loop μ-loop
-slice-aggregate-list-entry-2 c = search needs
-
-slice-aggregate-list-entry-3 : tie.Need-slice-aggregate-list-entry-3 Inv-loop μ-loop
-slice-aggregate-list-entry-3 c = search needs
-
-slice-aggregate-list-entry-4 : tie.Need-slice-aggregate-list-entry-4 Inv-loop μ-loop
-slice-aggregate-list-entry-4 c = search needs
 
 mul-list-entry : tie.Need-mul-list-entry Inv-loop μ-loop
 mul-list-entry c =
@@ -72,9 +57,6 @@ add-i c =
     let at-clamp = at-loop-test .before .before in
     omega (arith, at-clamp .clamp .ensures, at-loop-test .loop-test .taken)
 
-loop-less : tie.Need-loop-less Inv-loop μ-loop
-loop-less c = search needs
-
 loop-again : tie.Need-loop-again Inv-loop μ-loop
 loop-again c =
     let at-list-entry = c .before .before .before .before in
@@ -99,21 +81,5 @@ returns c =
 pub listing-of-spec : {M : Type 1} → statement M
 listing-of-spec =
     tie.close
-    (tie.spec
-    Inv-loop
-    μ-loop
-    clamp-requires
-    loop-holds
-    cast-before
-    add-position
-    slice-aggregate-list-entry
-    slice-aggregate-list-entry-2
-    slice-aggregate-list-entry-3
-    slice-aggregate-list-entry-4
-    mul-list-entry
-    array-copy-out-list-entry
-    list-entry-requires
-    add-i
-    loop-less
-    loop-again
-    returns)
+    (tie.spec Inv-loop μ-loop (search needs) loop-holds cast-before add-position (search needs) (search needs) (search needs)
+    (search needs) mul-list-entry array-copy-out-list-entry list-entry-requires add-i (search needs) loop-again returns)

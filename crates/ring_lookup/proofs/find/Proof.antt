@@ -21,9 +21,6 @@ Inv-loop count block number entries n i₀ i = (i ≤ n) × (length entries ≡ 
 abbrev μ-loop : tie.MeasureT-loop
 μ-loop count block number entries n i₀ i = n - i
 
-clamp-requires : tie.Need-clamp-requires Inv-loop μ-loop
-clamp-requires c κs = search needs
-
 loop-holds : tie.Need-loop-holds Inv-loop μ-loop
 loop-holds c = (omega arith, search needs, refl)
 
@@ -36,12 +33,6 @@ array-copy-out-entry : tie.Need-array-copy-out-entry Inv-loop μ-loop
 array-copy-out-entry c =
     let at-clamp = c .before .before in
     omega (arith, at-clamp .clamp .ensures, c .loop-test .taken)
-
-pairs-requires : tie.Need-pairs-requires Inv-loop μ-loop
-pairs-requires c κs = search needs
-
-holds-requires : tie.Need-holds-requires Inv-loop μ-loop
-holds-requires c κs = search needs
 
 cast-before : tie.Need-cast-before Inv-loop μ-loop
 cast-before c =
@@ -73,9 +64,6 @@ add-i c =
     let at-clamp = at-loop-test .before .before in
     omega (arith, at-clamp .clamp .ensures, at-loop-test .loop-test .taken)
 
-loop-less : tie.Need-loop-less Inv-loop μ-loop
-loop-less c = search needs
-
 loop-again : tie.Need-loop-again Inv-loop μ-loop
 loop-again c =
     let at-holds = c .before in
@@ -99,19 +87,5 @@ returns-2 c =
 pub find-spec : {M : Type 1} → statement M
 find-spec =
     tie.close
-    (tie.spec
-    Inv-loop
-    μ-loop
-    clamp-requires
-    loop-holds
-    mul-entry
-    array-copy-out-entry
-    pairs-requires
-    holds-requires
-    cast-before
-    add-position
-    returns
-    add-i
-    loop-less
-    loop-again
-    returns-2)
+    (tie.spec Inv-loop μ-loop (search needs) loop-holds mul-entry array-copy-out-entry (search needs) (search needs) cast-before
+    add-position returns add-i (search needs) loop-again returns-2)

@@ -11,9 +11,6 @@ use native.Mathlib.Omega.{arith}
 use Rattle.ring_refusals.proofs.place_of.Statement.{statement}
 use Rattle.ring_refusals.proofs.place_of.Tie as tie
 
-cast-x : tie.Need-cast-x
-cast-x c = search needs
-
 returns : tie.Need-returns
 unfolding placeIn
 returns c =
@@ -29,9 +26,6 @@ returns-2 c =
     let x = start .args .position .0 in
     (sym (λ i. cond (ne-eqb x 0 (at-if1 .if1 .left) i) 0 (cond (lt-ltb maxUnits x (c .if2 .taken) i) 0 (x - 1))), omega arith)
 
-sub-result : tie.Need-sub-result
-sub-result c = search needs
-
 returns-3 : tie.Need-returns-3
 unfolding placeIn
 returns-3 c =
@@ -41,4 +35,6 @@ returns-3 c =
     (sym (λ i. cond (ne-eqb x 0 (at-if1 .if1 .left) i) 0 (cond (le-ltb maxUnits x (c .if2 .left) i) 0 (x - 1))), omega (arith, c .if2 .left, at-if1 .if1 .left))
 
 pub place-of-spec : {M : Type 1} → statement M
-place-of-spec = tie.close (tie.spec cast-x returns returns-2 sub-result returns-3)
+place-of-spec =
+    tie.close
+    (tie.spec (search needs) returns returns-2 (search needs) returns-3)

@@ -19,83 +19,8 @@ use Rattle.ring_refusals.proofs.refusal.Tie as tie
 refusals : List (List ℕ)
 refusals = (0 ∷ 3 ∷ 3 ∷ 3 ∷ 3 ∷ 3 ∷ []) ∷ (4 ∷ 0 ∷ 0 ∷ 0 ∷ 0 ∷ 0 ∷ []) ∷ (4 ∷ 0 ∷ 0 ∷ 0 ∷ 0 ∷ 0 ∷ []) ∷ []
 
-row-of-requires : tie.Need-row-of-requires
-row-of-requires c κs = search needs
-
 enum-told : tie.Need-enum-told
 enum-told c = search needs
-
-enum-told-2 : tie.Need-enum-told-2
-enum-told-2 c = search needs
-
-mul-result : tie.Need-mul-result
-mul-result c = search needs
-
-index-1-result : tie.Need-index-1-result
-index-1-result c = search needs
-
-index-2-result : tie.Need-index-2-result
-index-2-result c = search needs
-
-enum-told-3 : tie.Need-enum-told-3
-enum-told-3 c = search needs
-
-mul-result-2 : tie.Need-mul-result-2
-mul-result-2 c = search needs
-
-index-1-result-2 : tie.Need-index-1-result-2
-index-1-result-2 c = search needs
-
-index-2-result-2 : tie.Need-index-2-result-2
-index-2-result-2 c = search needs
-
-enum-told-4 : tie.Need-enum-told-4
-enum-told-4 c = search needs
-
-mul-result-3 : tie.Need-mul-result-3
-mul-result-3 c = search needs
-
-index-1-result-3 : tie.Need-index-1-result-3
-index-1-result-3 c = search needs
-
-index-2-result-3 : tie.Need-index-2-result-3
-index-2-result-3 c = search needs
-
-enum-told-5 : tie.Need-enum-told-5
-enum-told-5 c = search needs
-
-mul-result-4 : tie.Need-mul-result-4
-mul-result-4 c = search needs
-
-index-1-result-4 : tie.Need-index-1-result-4
-index-1-result-4 c = search needs
-
-index-2-result-4 : tie.Need-index-2-result-4
-index-2-result-4 c = search needs
-
-enum-told-6 : tie.Need-enum-told-6
-enum-told-6 c = search needs
-
-mul-result-5 : tie.Need-mul-result-5
-mul-result-5 c = search needs
-
-index-1-result-5 : tie.Need-index-1-result-5
-index-1-result-5 c = search needs
-
-index-2-result-5 : tie.Need-index-2-result-5
-index-2-result-5 c = search needs
-
-enum-told-7 : tie.Need-enum-told-7
-enum-told-7 c = search needs
-
-mul-result-6 : tie.Need-mul-result-6
-mul-result-6 c = search needs
-
-index-1-result-6 : tie.Need-index-1-result-6
-index-1-result-6 c = search needs
-
-index-2-result-6 : tie.Need-index-2-result-6
-index-2-result-6 c = search needs
 
 returns : tie.Need-returns
 unfolding refusalOf
@@ -154,37 +79,7 @@ returns-7 c =
 pub refusal-spec : {M : Type 1} → statement M
 refusal-spec =
     tie.close
-    (tie.spec
-    row-of-requires
-    enum-told
-    enum-told-2
-    mul-result
-    index-1-result
-    index-2-result
-    enum-told-3
-    mul-result-2
-    index-1-result-2
-    index-2-result-2
-    enum-told-4
-    mul-result-3
-    index-1-result-3
-    index-2-result-3
-    enum-told-5
-    mul-result-4
-    index-1-result-4
-    index-2-result-4
-    enum-told-6
-    mul-result-5
-    index-1-result-5
-    index-2-result-5
-    enum-told-7
-    mul-result-6
-    index-1-result-6
-    index-2-result-6
-    returns
-    returns-2
-    returns-3
-    returns-4
-    returns-5
-    returns-6
-    returns-7)
+    (tie.spec (search needs) enum-told (search needs) (search needs) (search needs) (search needs) (search needs) (search needs)
+    (search needs) (search needs) (search needs) (search needs) (search needs) (search needs) (search needs) (search needs)
+    (search needs) (search needs) (search needs) (search needs) (search needs) (search needs) (search needs) (search needs)
+    (search needs) (search needs) returns returns-2 returns-3 returns-4 returns-5 returns-6 returns-7)

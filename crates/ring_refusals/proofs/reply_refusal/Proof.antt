@@ -13,42 +13,6 @@ use Rattle.ring_refusals.proofs.reply_refusal.Tie as tie
 enum-told : tie.Need-enum-told
 enum-told c = search needs
 
-enum-told-2 : tie.Need-enum-told-2
-enum-told-2 c = search needs
-
-enum-told-3 : tie.Need-enum-told-3
-enum-told-3 c = search needs
-
-enum-told-4 : tie.Need-enum-told-4
-enum-told-4 c = search needs
-
-enum-known-event : tie.Need-enum-known-event
-enum-known-event c = search needs
-
-seat-refusal-requires : tie.Need-seat-refusal-requires
-seat-refusal-requires c κs = search needs
-
-unasked-requires : tie.Need-unasked-requires
-unasked-requires c κs = search needs
-
-or-else-requires : tie.Need-or-else-requires
-or-else-requires c κs = search needs
-
-enum-known-event-2 : tie.Need-enum-known-event-2
-enum-known-event-2 c = search needs
-
-seat-refusal-requires-2 : tie.Need-seat-refusal-requires-2
-seat-refusal-requires-2 c κs = search needs
-
-unexpected-requires : tie.Need-unexpected-requires
-unexpected-requires c κs = search needs
-
-or-else-requires-2 : tie.Need-or-else-requires-2
-or-else-requires-2 c κs = search needs
-
-enum-told-5 : tie.Need-enum-told-5
-enum-told-5 c = search needs
-
 returns : tie.Need-returns
 unfolding replyRefusal
 returns c =
@@ -102,24 +66,6 @@ returns-7 c =
 pub reply-refusal-spec : {M : Type 1} → statement M
 reply-refusal-spec =
     tie.close
-    (tie.spec
-    enum-told
-    enum-told-2
-    enum-told-3
-    enum-told-4
-    enum-known-event
-    seat-refusal-requires
-    unasked-requires
-    or-else-requires
-    enum-known-event-2
-    seat-refusal-requires-2
-    unexpected-requires
-    or-else-requires-2
-    enum-told-5
-    returns
-    returns-2
-    returns-3
-    returns-4
-    returns-5
-    returns-6
-    returns-7)
+    (tie.spec enum-told (search needs) (search needs) (search needs) (search needs) (search needs) (search needs) (search needs)
+    (search needs) (search needs) (search needs) (search needs) (search needs) returns returns-2 returns-3 returns-4 returns-5
+    returns-6 returns-7)

@@ -19,9 +19,6 @@ returns c =
     let a = start .args in
     sym (ap (λ (b : Bool). cond (not b) 5 (cond (eqb (a .position .0) 0) 6 (cond (ltb (min (a .units) maxUnits) (a .position .0)) 6 (cond (isIgnored (rowOf (a .entry))) 7 0)))) (ne-eqb (a .pass) (a .current) (c .if1 .taken)))
 
-cast-x : tie.Need-cast-x
-cast-x c = search needs
-
 returns-2 : tie.Need-returns-2
 unfolding seatRefusal
 returns-2 c =
@@ -29,9 +26,6 @@ returns-2 c =
     let start = at-if1 .before in
     let a = start .args in
     sym (λ i. cond (not (eq-eqb (a .pass) (a .current) (at-if1 .if1 .left) i)) 5 (cond (eq-eqb (a .position .0) 0 (c .if2 .taken) i) 6 (cond (ltb (min (a .units) maxUnits) (a .position .0)) 6 (cond (isIgnored (rowOf (a .entry))) 7 0))))
-
-clamp-requires : tie.Need-clamp-requires
-clamp-requires c κs = search needs
 
 returns-3 : tie.Need-returns-3
 unfolding seatRefusal
@@ -43,9 +37,6 @@ returns-3 c =
     let a = start .args in
     let l = at-clamp .clamp .ensures in
     sym (λ i. cond (not (eq-eqb (a .pass) (a .current) (at-if1 .if1 .left) i)) 5 (cond (ne-eqb (a .position .0) 0 (at-if2 .if2 .left) i) 6 (cond ((ap (λ (n : ℕ). ltb n (a .position .0)) (sym l) ∙ lt-ltb _ (a .position .0) (c .if3 .taken)) i) 6 (cond (isIgnored (rowOf (a .entry))) 7 0))))
-
-is-ignored-requires : tie.Need-is-ignored-requires
-is-ignored-requires c κs = search needs
 
 returns-4 : tie.Need-returns-4
 unfolding seatRefusal
@@ -76,12 +67,4 @@ returns-5 c =
 pub seat-refusal-spec : {M : Type 1} → statement M
 seat-refusal-spec =
     tie.close
-    (tie.spec
-    returns
-    cast-x
-    returns-2
-    clamp-requires
-    returns-3
-    is-ignored-requires
-    returns-4
-    returns-5)
+    (tie.spec returns (search needs) returns-2 (search needs) returns-3 (search needs) returns-4 returns-5)

@@ -22,9 +22,6 @@ not-in-notok : (n : ℕ) → (n ≡ 1 → ⊥) → isNotOk (stateOf n) ≡ false
 unfolding isNotOk
 not-in-notok n h = by-state isNotOk n ∙ (λ i. cond (eqb n 0) false (cond (ne-eqb n 1 h i) true false)) ∙ cond-same (eqb n 0) false
 
-is-open-requires : tie.Need-is-open-requires
-is-open-requires c κs = search needs
-
 returns : tie.Need-returns
 returns c =
     let at-is-open = c .before in
@@ -50,4 +47,6 @@ returns-3 c =
     sym (ap (λ (b : Bool). cond (b && not (isOpen (rowOf (start .args .entry)))) 8 0) h)
 
 pub unasked-spec : {M : Type 1} → statement M
-unasked-spec = tie.close (tie.spec is-open-requires returns returns-2 returns-3)
+unasked-spec =
+    tie.close
+    (tie.spec (search needs) returns returns-2 returns-3)

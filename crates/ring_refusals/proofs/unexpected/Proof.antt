@@ -5,9 +5,6 @@ use mathlib.Core.Path.{_∙_, ap, sym}
 use Rattle.ring_refusals.proofs.unexpected.Statement.{statement}
 use Rattle.ring_refusals.proofs.unexpected.Tie as tie
 
-is-open-requires : tie.Need-is-open-requires
-is-open-requires c κs = search needs
-
 returns : tie.Need-returns
 returns c = sym (ap (λ (b : Bool). cond (not b) 8 0) (sym (c .before .is-open .ensures) ∙ c .if1 .taken))
 
@@ -15,4 +12,6 @@ returns-2 : tie.Need-returns-2
 returns-2 c = sym (ap (λ (b : Bool). cond (not b) 8 0) (sym (c .before .is-open .ensures) ∙ c .if1 .left))
 
 pub unexpected-spec : {M : Type 1} → statement M
-unexpected-spec = tie.close (tie.spec is-open-requires returns returns-2)
+unexpected-spec =
+    tie.close
+    (tie.spec (search needs) returns returns-2)

@@ -6,15 +6,9 @@ use Rattle.tel_head.proofs.Legal.{legal, range, short}
 use Rattle.tel_count.proofs.count.Statement.{statement}
 use Rattle.tel_count.proofs.count.Tie as tie
 
-illegal-requires : tie.Need-illegal-requires
-illegal-requires c κs = search needs
-
 returns : tie.Need-returns
 unfolding count
 returns c = simp (sym (c .before .illegal .ensures) ∙ c .if1 .taken)
-
-too-long-requires : tie.Need-too-long-requires
-too-long-requires c κs = search needs
 
 returns-2 : tie.Need-returns-2
 unfolding count
@@ -41,4 +35,6 @@ returns-3 c =
     simp (legal _ (at-illegal .illegal .ensures) (at-if1 .if1 .left), sym (at-too-long .too-long .ensures) ∙ at-if2 .if2 .left, c .count-of .ensures)
 
 pub count-spec : {M : Type 1} → statement M
-count-spec = tie.close (tie.spec illegal-requires returns too-long-requires returns-2 count-of-requires returns-3)
+count-spec =
+    tie.close
+    (tie.spec (search needs) returns (search needs) returns-2 count-of-requires returns-3)

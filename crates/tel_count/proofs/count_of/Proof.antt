@@ -9,22 +9,11 @@ returns : tie.Need-returns
 unfolding countOf
 returns c = simp (le-leb _ _ (c .if1 .taken))
 
-sub-result : tie.Need-sub-result
-sub-result c = search needs
-
-add-result : tie.Need-add-result
-add-result c = search needs
-
-sub-result-2 : tie.Need-sub-result-2
-sub-result-2 c = search needs
-
-div-result : tie.Need-div-result
-div-result c = search needs
-
 returns-2 : tie.Need-returns-2
 unfolding countOf
 returns-2 c = simp (lt-leb _ _ (c .if1 .left))
 
 pub count-of-spec : {M : Type 1} → statement M
 count-of-spec =
-    tie.close (tie.spec returns sub-result add-result sub-result-2 div-result returns-2)
+    tie.close
+    (tie.spec returns (search needs) (search needs) (search needs) (search needs) returns-2)

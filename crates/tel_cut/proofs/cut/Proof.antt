@@ -6,18 +6,12 @@ use Rattle.tel_cut.proofs.Cutting.{at-10, at-11, refused}
 use Rattle.tel_cut.proofs.cut.Statement.{statement}
 use Rattle.tel_cut.proofs.cut.Tie as tie
 
-illegal-requires : tie.Need-illegal-requires
-illegal-requires c κs = search needs
-
 returns : tie.Need-returns
 returns c =
     let at-illegal = c .before in
     let start = at-illegal .before .before .before in
     let a = start .args in
     refused (a .buffer .now) (at-10 (a .l) (a .msg-id) (a .payload .now) (a .number) _ (sym (at-illegal .illegal .ensures) ∙ c .if1 .taken))
-
-too-long-requires : tie.Need-too-long-requires
-too-long-requires c κs = search needs
 
 returns-2 : tie.Need-returns-2
 returns-2 c =
@@ -37,12 +31,6 @@ cut-part-requires c κs =
     let at-illegal = at-if1 .before in
     (legal _ (at-illegal .illegal .ensures) (at-if1 .if1 .left), at-if3 .if3 .taken, short _ (at-too-long .too-long .ensures) (at-if2 .if2 .left))
 
-same-length : tie.Need-same-length
-same-length c = search needs
-
-returns-3 : tie.Need-returns-3
-returns-3 c = search needs
-
 cut-single-requires : tie.Need-cut-single-requires
 cut-single-requires c κs =
     let at-if3 = c .before in
@@ -50,23 +38,8 @@ cut-single-requires c κs =
     let at-illegal = at-if1 .before in
     (legal _ (at-illegal .illegal .ensures) (at-if1 .if1 .left), at-if3 .if3 .left)
 
-same-length-2 : tie.Need-same-length-2
-same-length-2 c = search needs
-
-returns-4 : tie.Need-returns-4
-returns-4 c = search needs
-
 pub cut-spec : {M : Type 1} → statement M
 cut-spec =
     tie.close
-    (tie.spec
-    illegal-requires
-    returns
-    too-long-requires
-    returns-2
-    cut-part-requires
-    same-length
-    returns-3
-    cut-single-requires
-    same-length-2
-    returns-4)
+    (tie.spec (search needs) returns (search needs) returns-2 cut-part-requires (search needs) (λ c. search needs)
+    cut-single-requires (search needs) (λ c. search needs))

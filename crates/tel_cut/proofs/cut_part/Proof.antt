@@ -23,9 +23,6 @@ returns-2 c =
     let a = start .args in
     refused (a .buffer .now) (part-many (a .l) (a .msg-id) (a .payload .now) (start .pre .0) (start .pre .1) (start .pre .2) (a .number) _ (c .if2 .taken))
 
-sub-before : tie.Need-sub-before
-sub-before c = search needs
-
 sub-most : tie.Need-sub-most
 sub-most c =
     let start = c .before .before .before .before in
@@ -46,18 +43,6 @@ returns-3 c =
     let a = start .args in
     refused (a .buffer .now) (part-12 (a .l) (a .msg-id) (a .payload .now) (start .pre .0) (start .pre .1) (start .pre .2) (a .number) _ (at-if1 .if1 .left) (c .if3 .taken))
 
-sub-left : tie.Need-sub-left
-sub-left c = search needs
-
-smaller-requires : tie.Need-smaller-requires
-smaller-requires c κs = search needs
-
-add-if4 : tie.Need-add-if4
-add-if4 c = search needs
-
-add-if4-2 : tie.Need-add-if4-2
-add-if4-2 c = search needs
-
 returns-4 : tie.Need-returns-4
 returns-4 c =
     let at-smaller = c .before in
@@ -66,18 +51,6 @@ returns-4 c =
     let start = at-if1 .before .before .before in
     let a = start .args in
     refused (a .buffer .now) (part-13 (a .l) (a .msg-id) (a .payload .now) (start .pre .0) (start .pre .1) (start .pre .2) (a .number) _ (at-if1 .if1 .left) (at-smaller .smaller .result) (at-if3 .if3 .left) (at-smaller .smaller .ensures) (c .if4 .taken))
-
-part-id-requires : tie.Need-part-id-requires
-part-id-requires c κs = search needs
-
-cast-low : tie.Need-cast-low
-cast-low c = search needs
-
-low-requires : tie.Need-low-requires
-low-requires c κs = search needs
-
-add-write-part : tie.Need-add-write-part
-add-write-part c = search needs
 
 write-part-requires : tie.Need-write-part-requires
 write-part-requires c κs =
@@ -88,15 +61,6 @@ write-part-requires c κs =
     let start = at-if3 .before .before .before .before .before in
     let p = part-inside (start .args .l) _ _ (at-smaller .smaller .result) _ (start .pre .0) (at-if3 .if3 .left) (at-smaller .smaller .ensures) (at-if4 .if4 .left) in
     (at-part-id .part-id .ensures .1, p .0, p .1, p .2, p .3)
-
-add-t16 : tie.Need-add-t16
-add-t16 c = search needs
-
-add-t15 : tie.Need-add-t15
-add-t15 c = search needs
-
-same-length : tie.Need-same-length
-same-length c = search needs
 
 returns-5 : tie.Need-returns-5
 returns-5 c =
@@ -118,24 +82,6 @@ returns-5 c =
 pub cut-part-spec : {M : Type 1} → statement M
 cut-part-spec =
     tie.close
-    (tie.spec
-    returns
-    returns-2
-    sub-before
-    sub-most
-    mul-from
-    returns-3
-    sub-left
-    smaller-requires
-    add-if4
-    add-if4-2
-    returns-4
-    part-id-requires
-    cast-low
-    low-requires
-    add-write-part
-    write-part-requires
-    add-t16
-    add-t15
-    same-length
-    returns-5)
+    (tie.spec returns returns-2 (search needs) sub-most mul-from returns-3 (search needs) (search needs) (search needs)
+    (search needs) returns-4 (search needs) (search needs) (search needs) (search needs) write-part-requires (search needs)
+    (search needs) (search needs) returns-5)

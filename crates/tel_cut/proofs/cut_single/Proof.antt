@@ -13,9 +13,6 @@ returns c =
     let a = start .args in
     refused (a .buffer .now) (single-12 (a .l) (a .msg-id) (a .payload .now) (start .pre .0) (start .pre .1) (a .number) _ (c .if1 .taken))
 
-add-if2 : tie.Need-add-if2
-add-if2 c = search needs
-
 returns-2 : tie.Need-returns-2
 returns-2 c =
     let at-if1 = c .before in
@@ -33,15 +30,6 @@ write-head-requires c κs =
     let start = c .before .before .before .before .before in
     omega (arith, size-range (start .args .l) (start .pre .0))
 
-store-requires : tie.Need-store-requires
-store-requires c κs = search needs
-
-add-t8 : tie.Need-add-t8
-add-t8 c = search needs
-
-same-length : tie.Need-same-length
-same-length c = search needs
-
 returns-3 : tie.Need-returns-3
 returns-3 c =
     let at-store = c .before .before in
@@ -58,13 +46,5 @@ returns-3 c =
 pub cut-single-spec : {M : Type 1} → statement M
 cut-single-spec =
     tie.close
-    (tie.spec
-    returns
-    add-if2
-    returns-2
-    cast-write-head
-    write-head-requires
-    store-requires
-    add-t8
-    same-length
+    (tie.spec returns (search needs) returns-2 cast-write-head write-head-requires (search needs) (search needs) (search needs)
     returns-3)

@@ -8,33 +8,6 @@ use Rattle.tel_cut.proofs.Cutting.{stored-part}
 use Rattle.tel_cut.proofs.write_part.Statement.{statement}
 use Rattle.tel_cut.proofs.write_part.Tie as tie
 
-sub-write-head : tie.Need-sub-write-head
-sub-write-head c = search needs
-
-add-write-head : tie.Need-add-write-head
-add-write-head c = search needs
-
-cast-write-head : tie.Need-cast-write-head
-cast-write-head c = search needs
-
-write-head-requires : tie.Need-write-head-requires
-write-head-requires c κs = search needs
-
-slice-write-buffer : tie.Need-slice-write-buffer
-slice-write-buffer c = search needs
-
-add-store : tie.Need-add-store
-add-store c = search needs
-
-sub-store : tie.Need-sub-store
-sub-store c = search needs
-
-part-store-start : tie.Need-part-store-start
-part-store-start c = search needs
-
-part-store-end : tie.Need-part-store-end
-part-store-end c = search needs
-
 store-requires : tie.Need-store-requires
 store-requires c κs =
     let at-write-head = c .before .before .before .before in
@@ -58,16 +31,5 @@ returns c =
 pub write-part-spec : {M : Type 1} → statement M
 write-part-spec =
     tie.close
-    (tie.spec
-    sub-write-head
-    add-write-head
-    cast-write-head
-    write-head-requires
-    slice-write-buffer
-    add-store
-    sub-store
-    part-store-start
-    part-store-end
-    store-requires
-    same-length
-    returns)
+    (tie.spec (search needs) (search needs) (search needs) (search needs) (search needs) (search needs) (search needs)
+    (search needs) (search needs) store-requires same-length returns)

@@ -5,27 +5,6 @@ use Rattle.tel_head.proofs.Words.{two-words}
 use Rattle.tel_head.proofs.copy8.Statement.{statement}
 use Rattle.tel_head.proofs.copy8.Tie as tie
 
-read4-requires : tie.Need-read4-requires
-read4-requires c κs = search needs
-
-add-read4 : tie.Need-add-read4
-add-read4 c = search needs
-
-read4-requires-2 : tie.Need-read4-requires-2
-read4-requires-2 c κs = search needs
-
-write4-requires : tie.Need-write4-requires
-write4-requires c κs = search needs
-
-add-write4 : tie.Need-add-write4
-add-write4 c = search needs
-
-write4-requires-2 : tie.Need-write4-requires-2
-write4-requires-2 c κs = search needs
-
-same-length : tie.Need-same-length
-same-length c = search needs
-
 returns : tie.Need-returns
 returns c =
     let at-write42 = c .before .before in
@@ -41,12 +20,4 @@ returns c =
 pub copy8-spec : {M : Type 1} → statement M
 copy8-spec =
     tie.close
-    (tie.spec
-    read4-requires
-    add-read4
-    read4-requires-2
-    write4-requires
-    add-write4
-    write4-requires-2
-    same-length
-    returns)
+    (tie.spec (search needs) (search needs) (search needs) (search needs) (search needs) (search needs) (search needs) returns)

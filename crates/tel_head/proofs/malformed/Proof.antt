@@ -10,12 +10,6 @@ returns : tie.Need-returns
 unfolding malformed
 returns c = simp (lt-ltb _ _ (c .if1 .taken))
 
-tel-len-requires : tie.Need-tel-len-requires
-tel-len-requires c κs = search needs
-
-add-if2 : tie.Need-add-if2
-add-if2 c = search needs
-
 returns-2 : tie.Need-returns-2
 unfolding malformed
 returns-2 c = simp (le-ltb _ _ (c .before .before .if1 .left), sym (c .before .tel-len .ensures .0), ne-eqb _ _ (c .if2 .taken))
@@ -36,9 +30,6 @@ returns-4 c =
     let at-tel-len = at-if2 .before in
     let at-if1 = at-tel-len .before in
     simp (le-ltb _ _ (at-if1 .if1 .left), sym (at-tel-len .tel-len .ensures .0), eq-eqb _ _ (at-if2 .if2 .left), le-ltb _ _ (at-if3 .if3 .left), ne-eqb _ _ (c .if4 .taken))
-
-tel-id-requires : tie.Need-tel-id-requires
-tel-id-requires c κs = search needs
 
 returns-5 : tie.Need-returns-5
 unfolding malformed
@@ -78,14 +69,4 @@ returns-7 c =
 pub malformed-spec : {M : Type 1} → statement M
 malformed-spec =
     tie.close
-    (tie.spec
-    returns
-    tel-len-requires
-    add-if2
-    returns-2
-    returns-3
-    returns-4
-    tel-id-requires
-    returns-5
-    returns-6
-    returns-7)
+    (tie.spec returns (search needs) (search needs) returns-2 returns-3 returns-4 (search needs) returns-5 returns-6 returns-7)

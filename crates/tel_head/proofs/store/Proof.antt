@@ -29,21 +29,6 @@ loop-holds c =
     let e : start .args .at + 0 ≡ start .args .at = omega arith in
     (omega arith, refl, rw e refl)
 
-shared-slice-read-buffer : tie.Need-shared-slice-read-buffer Inv-loop μ-loop Inv-loop2 μ-loop2
-shared-slice-read-buffer c = search needs
-
-add-buffer : tie.Need-add-buffer Inv-loop μ-loop Inv-loop2 μ-loop2
-add-buffer c = search needs
-
-slice-write-buffer : tie.Need-slice-write-buffer Inv-loop μ-loop Inv-loop2 μ-loop2
-slice-write-buffer c = search needs
-
-add-i : tie.Need-add-i Inv-loop μ-loop Inv-loop2 μ-loop2
-add-i c = search needs
-
-loop-less : tie.Need-loop-less Inv-loop μ-loop Inv-loop2 μ-loop2
-loop-less c = search needs
-
 loop-again : tie.Need-loop-again Inv-loop μ-loop Inv-loop2 μ-loop2
 loop-again c =
     let at-loop-test = c .before in
@@ -56,18 +41,6 @@ loop-again c =
 loop2-holds : tie.Need-loop2-holds Inv-loop μ-loop Inv-loop2 μ-loop2
 loop2-holds c = (omega arith, omega arith, refl, refl)
 
-add-copy8 : tie.Need-add-copy8 Inv-loop μ-loop Inv-loop2 μ-loop2
-add-copy8 c = search needs
-
-copy8-requires : tie.Need-copy8-requires Inv-loop μ-loop Inv-loop2 μ-loop2
-copy8-requires c κs = search needs
-
-add-i-2 : tie.Need-add-i-2 Inv-loop μ-loop Inv-loop2 μ-loop2
-add-i-2 c = search needs
-
-loop2-less : tie.Need-loop2-less Inv-loop μ-loop Inv-loop2 μ-loop2
-loop2-less c = search needs
-
 loop2-again : tie.Need-loop2-again Inv-loop μ-loop Inv-loop2 μ-loop2
 loop2-again c =
     let at-copy8 = c .before .before in
@@ -76,9 +49,6 @@ loop2-again c =
     let w = at-loop2 .loop2 in
     let s = start .args in
     (omega arith, omega arith, at-copy8 .copy8 .kept .0 ∙ w .inv .2, run-on (w .buffer) (s .part .now) (s .at) (w .i) 8 (omega arith) (at-copy8 .copy8 .ensures) ∙ w .inv .3)
-
-same-length : tie.Need-same-length Inv-loop μ-loop Inv-loop2 μ-loop2
-same-length c = search needs
 
 returns : tie.Need-returns Inv-loop μ-loop Inv-loop2 μ-loop2
 returns c =
@@ -90,23 +60,6 @@ returns c =
 pub store-spec : {M : Type 1} → statement M
 store-spec =
     tie.close
-    (tie.spec
-    Inv-loop
-    μ-loop
-    Inv-loop2
-    μ-loop2
-    loop-holds
-    shared-slice-read-buffer
-    add-buffer
-    slice-write-buffer
-    add-i
-    loop-less
-    loop-again
-    loop2-holds
-    add-copy8
-    copy8-requires
-    add-i-2
-    loop2-less
-    loop2-again
-    same-length
+    (tie.spec Inv-loop μ-loop Inv-loop2 μ-loop2 loop-holds (search needs) (search needs) (search needs) (search needs)
+    (search needs) loop-again loop2-holds (search needs) (search needs) (search needs) (search needs) loop2-again (search needs)
     returns)

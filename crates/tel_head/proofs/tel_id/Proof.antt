@@ -5,9 +5,6 @@ use Rattle.rules.specs.Telegram.{telIdOf}
 use Rattle.tel_head.proofs.tel_id.Statement.{statement}
 use Rattle.tel_head.proofs.tel_id.Tie as tie
 
-shared-slice-read-result : tie.Need-shared-slice-read-result
-shared-slice-read-result c = search needs
-
 cast-result : tie.Need-cast-result
 cast-result c = omega (arith, c .shared-slice-known .given 4)
 
@@ -16,4 +13,6 @@ unfolding telIdOf
 returns c = omega arith
 
 pub tel-id-spec : {M : Type 1} → statement M
-tel-id-spec = tie.close (tie.spec shared-slice-read-result cast-result returns)
+tel-id-spec =
+    tie.close
+    (tie.spec (search needs) cast-result returns)

@@ -7,18 +7,6 @@ use Rattle.rules.specs.Telegram.{telLenOf}
 use Rattle.tel_head.proofs.tel_len.Statement.{statement}
 use Rattle.tel_head.proofs.tel_len.Tie as tie
 
-shared-slice-read-word : tie.Need-shared-slice-read-word
-shared-slice-read-word c = search needs
-
-shared-slice-read-word-2 : tie.Need-shared-slice-read-word-2
-shared-slice-read-word-2 c = search needs
-
-word-requires : tie.Need-word-requires
-word-requires c κs = search needs
-
-cast-result : tie.Need-cast-result
-cast-result c = search needs
-
 returns : tie.Need-returns
 unfolding telLenOf
 returns c =
@@ -29,4 +17,4 @@ returns c =
 pub tel-len-spec : {M : Type 1} → statement M
 tel-len-spec =
     tie.close
-    (tie.spec shared-slice-read-word shared-slice-read-word-2 word-requires cast-result returns)
+    (tie.spec (search needs) (search needs) (search needs) (search needs) returns)

@@ -6,24 +6,6 @@ use lib.ListN.{set}
 use Rattle.tel_head.proofs.write_head.Statement.{statement}
 use Rattle.tel_head.proofs.write_head.Tie as tie
 
-write4-requires : tie.Need-write4-requires
-write4-requires c κs = search needs
-
-pack-requires : tie.Need-pack-requires
-pack-requires c κs = search needs
-
-slice-write-buffer : tie.Need-slice-write-buffer
-slice-write-buffer c = search needs
-
-low-requires : tie.Need-low-requires
-low-requires c κs = search needs
-
-slice-write-buffer-2 : tie.Need-slice-write-buffer-2
-slice-write-buffer-2 c = search needs
-
-same-length : tie.Need-same-length
-same-length c = search needs
-
 returns : tie.Need-returns
 unfolding four two headBytes
 returns c =
@@ -34,11 +16,4 @@ returns c =
 pub write-head-spec : {M : Type 1} → statement M
 write-head-spec =
     tie.close
-    (tie.spec
-    write4-requires
-    pack-requires
-    slice-write-buffer
-    low-requires
-    slice-write-buffer-2
-    same-length
-    returns)
+    (tie.spec (search needs) (search needs) (search needs) (search needs) (λ c. search needs) (λ c. search needs) returns)

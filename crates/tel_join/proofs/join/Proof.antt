@@ -10,12 +10,6 @@ use Rattle.tel_join.proofs.Taking.{keeps, has-head, at-most, has-counte
 use Rattle.tel_join.proofs.join.Statement.{statement}
 use Rattle.tel_join.proofs.join.Tie as tie
 
-illegal-requires : tie.Need-illegal-requires
-illegal-requires c κs = search needs
-
-refused-requires : tie.Need-refused-requires
-refused-requires c κs = search needs
-
 returns : tie.Need-returns
 unfolding join
 returns c =
@@ -24,9 +18,6 @@ returns c =
     let start = at-illegal .before .before .before in
     let a = start .args in
     keeps (a .state) (a .buffer .now) 10 refl (simp (sym (at-illegal .illegal .ensures) ∙ at-if1 .if1 .taken)) (c .refused .ensures)
-
-refused-requires-2 : tie.Need-refused-requires-2
-refused-requires-2 c κs = search needs
 
 returns-2 : tie.Need-returns-2
 unfolding join
@@ -37,12 +28,6 @@ returns-2 c =
     let start = at-illegal .before .before .before in
     let a = start .args in
     keeps (a .state) (a .buffer .now) 13 refl (simp (legal _ (at-illegal .illegal .ensures) (at-if1 .if1 .left), lt-ltb _ _ (at-if2 .if2 .taken))) (c .refused2 .ensures)
-
-malformed-requires : tie.Need-malformed-requires
-malformed-requires c κs = search needs
-
-refused-requires-3 : tie.Need-refused-requires-3
-refused-requires-3 c κs = search needs
 
 returns-3 : tie.Need-returns-3
 unfolding join
@@ -61,9 +46,6 @@ tel-id-requires c κs =
     let at-malformed = c .before in
     let start = at-malformed .before .before .before .before .before .before in
     has-head (start .args .l) (start .args .telegram .now) (sym (at-malformed .malformed .ensures) ∙ c .if3 .left)
-
-refused-requires-4 : tie.Need-refused-requires-4
-refused-requires-4 c κs = search needs
 
 returns-4 : tie.Need-returns-4
 unfolding join
@@ -94,9 +76,6 @@ take-requires c κs =
     let i = at-tel-id .tel-id .ensures in
     (at-if2 .if2 .left, has-head (a .l) (a .telegram .now) m, omega (arith, at-most (a .l) (a .telegram .now) m), λ f. has-counter (a .l) (a .telegram .now) m (omega arith) (λ e. f (i ∙ e)))
 
-same-length : tie.Need-same-length
-same-length c = search needs
-
 returns-5 : tie.Need-returns-5
 unfolding join
 returns-5 c =
@@ -113,18 +92,5 @@ returns-5 c =
 pub join-spec : {M : Type 1} → statement M
 join-spec =
     tie.close
-    (tie.spec
-    illegal-requires
-    refused-requires
-    returns
-    refused-requires-2
-    returns-2
-    malformed-requires
-    refused-requires-3
-    returns-3
-    tel-id-requires
-    refused-requires-4
-    returns-4
-    take-requires
-    same-length
-    returns-5)
+    (tie.spec (search needs) (search needs) returns (search needs) returns-2 (search needs) (search needs) returns-3
+    tel-id-requires (search needs) returns-4 take-requires (search needs) returns-5)

@@ -6,30 +6,6 @@ use Rattle.tel_join.proofs.Taking.{takes-single, takes-first, takes-par
 use Rattle.tel_join.proofs.take.Statement.{statement}
 use Rattle.tel_join.proofs.take.Tie as tie
 
-msg-id-requires : tie.Need-msg-id-requires
-msg-id-requires c κs = search needs
-
-sub-store : tie.Need-sub-store
-sub-store c = search needs
-
-part-store-start : tie.Need-part-store-start
-part-store-start c = search needs
-
-part-store-end : tie.Need-part-store-end
-part-store-end c = search needs
-
-store-requires : tie.Need-store-requires
-store-requires c κs = search needs
-
-sub-t16 : tie.Need-sub-t16
-sub-t16 c = search needs
-
-fresh-requires : tie.Need-fresh-requires
-fresh-requires c κs = search needs
-
-same-length : tie.Need-same-length
-same-length c = search needs
-
 returns : tie.Need-returns
 returns c =
     let at-store = c .before .before .before in
@@ -45,9 +21,6 @@ shared-slice-read-counter c =
     let start = at-if1 .before .before .before .before in
     omega (arith, start .pre .3 (at-if1 .if1 .left))
 
-add-part : tie.Need-add-part
-add-part c = search needs
-
 sub-part : tie.Need-sub-part
 sub-part c =
     let at-if1 = c .before in
@@ -60,15 +33,6 @@ part-part-start c =
     let start = at-if1 .before .before .before .before in
     omega (arith, start .pre .3 (at-if1 .if1 .left))
 
-part-part-end : tie.Need-part-part-end
-part-part-end c = search needs
-
-begin-requires : tie.Need-begin-requires
-begin-requires c κs = search needs
-
-same-length-2 : tie.Need-same-length-2
-same-length-2 c = search needs
-
 returns-2 : tie.Need-returns-2
 returns-2 c =
     let at-begin = c .before .before in
@@ -78,12 +42,6 @@ returns-2 c =
     let start = at-msg-id .before .before .before in
     let a = start .args in
     takes-first (a .tel-id) (a .state) (a .telegram .now) (a .buffer .now) (at-msg-id .msg-id .ensures) (at-if1 .if1 .left) (at-if2 .if2 .taken) (at-begin .begin .ensures)
-
-go-on-requires : tie.Need-go-on-requires
-go-on-requires c κs = search needs
-
-same-length-3 : tie.Need-same-length-3
-same-length-3 c = search needs
 
 returns-3 : tie.Need-returns-3
 returns-3 c =
@@ -98,24 +56,6 @@ returns-3 c =
 pub take-spec : {M : Type 1} → statement M
 take-spec =
     tie.close
-    (tie.spec
-    msg-id-requires
-    sub-store
-    part-store-start
-    part-store-end
-    store-requires
-    sub-t16
-    fresh-requires
-    same-length
-    returns
-    shared-slice-read-counter
-    add-part
-    sub-part
-    part-part-start
-    part-part-end
-    begin-requires
-    same-length-2
-    returns-2
-    go-on-requires
-    same-length-3
-    returns-3)
+    (tie.spec (search needs) (search needs) (search needs) (search needs) (search needs) (search needs) (search needs)
+    (search needs) returns shared-slice-read-counter (search needs) sub-part part-part-start (search needs) (search needs)
+    (search needs) returns-2 (search needs) (search needs) returns-3)

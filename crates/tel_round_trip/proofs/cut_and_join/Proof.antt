@@ -20,15 +20,9 @@ Inv-loop l msg-id payload buffer₀ n count state₀ number₀ buffer state numb
 abbrev μ-loop : tie.MeasureT-loop
 μ-loop l msg-id payload buffer₀ n count state₀ number₀ buffer state number = count - number
 
-illegal-requires : tie.Need-illegal-requires Inv-loop μ-loop
-illegal-requires c κs = search needs
-
 returns : tie.Need-returns Inv-loop μ-loop
 unfolding back
 returns c = simp (sym (c .before .illegal .ensures) ∙ c .if1 .taken) (refl, refl)
-
-too-long-requires : tie.Need-too-long-requires Inv-loop μ-loop
-too-long-requires c κs = search needs
 
 returns-2 : tie.Need-returns-2 Inv-loop μ-loop
 unfolding back
@@ -54,9 +48,6 @@ count-of-requires c κs =
     let at-if1 = at-too-long .before in
     let at-illegal = at-if1 .before in
     (range _ (at-illegal .illegal .ensures) (at-if1 .if1 .left) .0, short _ (at-too-long .too-long .ensures) (at-if2 .if2 .left))
-
-fresh-requires : tie.Need-fresh-requires Inv-loop μ-loop
-fresh-requires c κs = search needs
 
 loop-holds : tie.Need-loop-holds Inv-loop μ-loop
 loop-holds c =
@@ -145,21 +136,5 @@ returns-4 c =
 pub cut-and-join-spec : {M : Type 1} → statement M
 cut-and-join-spec =
     tie.close
-    (tie.spec
-    Inv-loop
-    μ-loop
-    illegal-requires
-    returns
-    too-long-requires
-    returns-2
-    returns-3
-    count-of-requires
-    fresh-requires
-    loop-holds
-    pass-on-requires
-    add-number
-    loop-less
-    loop-again
-    pass-on-requires-2
-    same-length
-    returns-4)
+    (tie.spec Inv-loop μ-loop (search needs) returns (search needs) returns-2 returns-3 count-of-requires (search needs)
+    loop-holds pass-on-requires add-number loop-less loop-again pass-on-requires-2 same-length returns-4)

@@ -12,15 +12,6 @@ use Rattle.tel_round_trip.proofs.Passing.{inside, read-back}
 use Rattle.tel_round_trip.proofs.pass_on.Statement.{statement}
 use Rattle.tel_round_trip.proofs.pass_on.Tie as tie
 
-slice-aggregate-cut : tie.Need-slice-aggregate-cut
-slice-aggregate-cut c = search needs
-
-cut-requires : tie.Need-cut-requires
-cut-requires c κs = search needs
-
-length-requires : tie.Need-length-requires
-length-requires c κs = search needs
-
 array-share-prefix-telegram : tie.Need-array-share-prefix-telegram
 array-share-prefix-telegram c =
     let at-length = c .before in
@@ -39,12 +30,6 @@ slice-aggregate-join c =
     let p = start .pre in
     sym (length-take-le _ _ (omega (arith, at-length .length .ensures, inside (a .l) (a .msg-id) (a .payload .now) (a .number) (p .0) (p .1) (p .2) (p .3) refl (at-cut .cut .ensures))))
 
-join-requires : tie.Need-join-requires
-join-requires c κs = search needs
-
-same-length : tie.Need-same-length
-same-length c = search needs
-
 returns : tie.Need-returns
 returns c =
     let at-join = c .before .before in
@@ -58,12 +43,5 @@ returns c =
 pub pass-on-spec : {M : Type 1} → statement M
 pass-on-spec =
     tie.close
-    (tie.spec
-    slice-aggregate-cut
-    cut-requires
-    length-requires
-    array-share-prefix-telegram
-    slice-aggregate-join
-    join-requires
-    same-length
-    returns)
+    (tie.spec (search needs) (search needs) (search needs) array-share-prefix-telegram slice-aggregate-join (search needs)
+    (search needs) returns)

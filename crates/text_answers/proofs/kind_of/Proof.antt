@@ -9,9 +9,6 @@ use Rattle.text_answers.proofs.kind_of.Tie as tie
 returns : tie.Need-returns
 returns c = kind-empty _ (c .if1 .taken)
 
-shared-slice-read-first : tie.Need-shared-slice-read-first
-shared-slice-read-first c = search needs
-
 returns-2 : tie.Need-returns-2
 returns-2 c = kind-remark (drop-here (c .before .before .before .args .line .now) 0 0 (omega arith)) (c .match .keys1)
 
@@ -36,4 +33,4 @@ returns-6 c =
 pub kind-of-spec : {M : Type 1} → statement M
 kind-of-spec =
     tie.close
-    (tie.spec returns shared-slice-read-first returns-2 returns-3 returns-4 returns-5 returns-6)
+    (tie.spec returns (search needs) returns-2 returns-3 returns-4 returns-5 returns-6)

@@ -17,18 +17,6 @@ returns-2 : tie.Need-returns-2
 unfolding shownOf
 returns-2 c = (sym (cond-true _ _ (eq-eqb _ _ (c .before .if1 .left)) ∙ cond-false _ _ (le-ltb _ _ (c .if2 .taken))), omega arith)
 
-sub-trimmed : tie.Need-sub-trimmed
-sub-trimmed c = search needs
-
-part-trimmed-start : tie.Need-part-trimmed-start
-part-trimmed-start c = search needs
-
-part-trimmed-end : tie.Need-part-trimmed-end
-part-trimmed-end c = search needs
-
-trimmed-requires : tie.Need-trimmed-requires
-trimmed-requires c κs = search needs
-
 returns-3 : tie.Need-returns-3
 unfolding shownOf
 returns-3 c =
@@ -39,11 +27,4 @@ returns-3 c =
 pub shown-spec : {M : Type 1} → statement M
 shown-spec =
     tie.close
-    (tie.spec
-    returns
-    returns-2
-    sub-trimmed
-    part-trimmed-start
-    part-trimmed-end
-    trimmed-requires
-    returns-3)
+    (tie.spec returns returns-2 (search needs) (search needs) (search needs) (search needs) returns-3)

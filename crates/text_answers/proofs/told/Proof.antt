@@ -7,9 +7,6 @@ use borrow.Author.Needs.{needs}
 use Rattle.text_answers.proofs.told.Statement.{statement}
 use Rattle.text_answers.proofs.told.Tie as tie
 
-sub-if1 : tie.Need-sub-if1
-sub-if1 c = search needs
-
 returns : tie.Need-returns
 unfolding toldOf
 returns c = sym (cond-true _ _ (lt-ltb _ _ (c .if1 .taken)))
@@ -19,4 +16,6 @@ unfolding toldOf
 returns-2 c = sym (cond-false _ _ (le-ltb _ _ (c .if1 .left)))
 
 pub told-spec : {M : Type 1} → statement M
-told-spec = tie.close (tie.spec sub-if1 returns returns-2)
+told-spec =
+    tie.close
+    (tie.spec (search needs) returns returns-2)

@@ -6,9 +6,6 @@ use borrow.Author.Needs.{needs}
 use Rattle.text_arguments.proofs.group_reason.Statement.{statement}
 use Rattle.text_arguments.proofs.group_reason.Tie as tie
 
-all-hex-requires : tie.Need-all-hex-requires
-all-hex-requires c κs = search needs
-
 returns : tie.Need-returns
 returns c = group-none _ (sym (c .before .all-hex .ensures) ∙ not-true _ (c .if1 .taken))
 
@@ -19,4 +16,6 @@ returns-3 : tie.Need-returns-3
 returns-3 c = group-whole _ (sym (c .before .before .all-hex .ensures) ∙ not-false _ (c .before .if1 .left)) (c .if2 .left)
 
 pub group-reason-spec : {M : Type 1} → statement M
-group-reason-spec = tie.close (tie.spec all-hex-requires returns returns-2 returns-3)
+group-reason-spec =
+    tie.close
+    (tie.spec (search needs) returns returns-2 returns-3)

@@ -8,22 +8,15 @@ use Rattle.text_in.specs.Lines.{keptAt}
 use Rattle.text_in.proofs.store.Statement.{statement}
 use Rattle.text_in.proofs.store.Tie as tie
 
-add-result : tie.Need-add-result
-add-result c = search needs
-
 returns : tie.Need-returns
 unfolding keptAt
 returns c = (omega arith, sym (cond-false _ _ (le-ltb _ _ (c .if1 .taken))))
-
-element-write-line : tie.Need-element-write-line
-element-write-line c = search needs
-
-add-result-2 : tie.Need-add-result-2
-add-result-2 c = search needs
 
 returns-2 : tie.Need-returns-2
 unfolding keptAt
 returns-2 c = (omega arith, sym (cond-true _ _ (lt-ltb _ _ (c .if1 .left))))
 
 pub store-spec : {M : Type 1} → statement M
-store-spec = tie.close (tie.spec add-result returns element-write-line add-result-2 returns-2)
+store-spec =
+    tie.close
+    (tie.spec (search needs) returns (search needs) (search needs) returns-2)

@@ -8,20 +8,11 @@ use mathlib.Core.Path.{_∙_, ap}
 use Rattle.wire_events.proofs.decode.Statement.{statement}
 use Rattle.wire_events.proofs.decode.Tie as tie
 
-plain-requires : tie.Need-plain-requires
-plain-requires c κs = search needs
-
 returns : tie.Need-returns
 unfolding decode
 returns c =
     let at-if1 = c .before in
     simp (c .plain .ensures .0, lt-leb _ _ (at-if1 .if1 .taken))
-
-shared-slice-read-if2 : tie.Need-shared-slice-read-if2
-shared-slice-read-if2 c = search needs
-
-plain-requires-2 : tie.Need-plain-requires-2
-plain-requires-2 c κs = search needs
 
 returns-2 : tie.Need-returns-2
 unfolding decode
@@ -30,12 +21,6 @@ returns-2 c =
     let at-if1 = at-if2 .before .before in
     simp (c .plain2 .ensures .0, le-leb _ _ (at-if1 .if1 .left), ne-eqb _ _ (at-if2 .if2 .taken))
 
-shared-slice-read-if3 : tie.Need-shared-slice-read-if3
-shared-slice-read-if3 c = search needs
-
-plain-requires-3 : tie.Need-plain-requires-3
-plain-requires-3 c κs = search needs
-
 returns-3 : tie.Need-returns-3
 unfolding decode
 returns-3 c =
@@ -43,12 +28,6 @@ returns-3 c =
     let at-if2 = at-if3 .before .before in
     let at-if1 = at-if2 .before .before in
     simp (c .plain3 .ensures .0, le-leb _ _ (at-if1 .if1 .left), eq-eqb _ _ (at-if2 .if2 .left), ne-eqb _ _ (at-if3 .if3 .taken))
-
-shared-slice-read-kind : tie.Need-shared-slice-read-kind
-shared-slice-read-kind c = search needs
-
-decode-answer-requires : tie.Need-decode-answer-requires
-decode-answer-requires c κs = search needs
 
 returns-4 : tie.Need-returns-4
 unfolding decode
@@ -59,9 +38,6 @@ returns-4 c =
     let at-if1 = at-if2 .before .before in
     simp (le-leb _ _ (at-if1 .if1 .left), eq-eqb _ _ (at-if2 .if2 .left), eq-eqb _ _ (at-if3 .if3 .left), eq-eqb _ _ (at-if4 .if4 .taken)) (c .decode-answer .ensures)
 
-plain-requires-4 : tie.Need-plain-requires-4
-plain-requires-4 c κs = search needs
-
 returns-5 : tie.Need-returns-5
 unfolding decode
 returns-5 c =
@@ -71,15 +47,6 @@ returns-5 c =
     let at-if2 = at-if3 .before .before in
     let at-if1 = at-if2 .before .before in
     simp (c .plain4 .ensures .0, le-leb _ _ (at-if1 .if1 .left), eq-eqb _ _ (at-if2 .if2 .left), eq-eqb _ _ (at-if3 .if3 .left), ne-eqb _ _ (at-if4 .if4 .left), ne-eqb _ _ (at-if5 .if5 .taken))
-
-read4-requires : tie.Need-read4-requires
-read4-requires c κs = search needs
-
-shared-slice-read-decode-plain : tie.Need-shared-slice-read-decode-plain
-shared-slice-read-decode-plain c = search needs
-
-decode-plain-requires : tie.Need-decode-plain-requires
-decode-plain-requires c κs = search needs
 
 returns-6 : tie.Need-returns-6
 unfolding decode
@@ -96,21 +63,5 @@ returns-6 c =
 pub decode-spec : {M : Type 1} → statement M
 decode-spec =
     tie.close
-    (tie.spec
-    plain-requires
-    returns
-    shared-slice-read-if2
-    plain-requires-2
-    returns-2
-    shared-slice-read-if3
-    plain-requires-3
-    returns-3
-    shared-slice-read-kind
-    decode-answer-requires
-    returns-4
-    plain-requires-4
-    returns-5
-    read4-requires
-    shared-slice-read-decode-plain
-    decode-plain-requires
-    returns-6)
+    (tie.spec (search needs) returns (search needs) (search needs) returns-2 (search needs) (search needs) returns-3
+    (search needs) (search needs) returns-4 (search needs) returns-5 (search needs) (search needs) (search needs) returns-6)

@@ -10,25 +10,16 @@ use native.Mathlib.Omega.{arith}
 use Rattle.wire_events.proofs.decode_answer.Statement.{statement}
 use Rattle.wire_events.proofs.decode_answer.Tie as tie
 
-plain-requires : tie.Need-plain-requires
-plain-requires c κs = search needs
-
 returns : tie.Need-returns
 returns c =
     let at-if1 = c .before in
     let start = at-if1 .before .before in
     simp (c .plain .ensures .0) (wrong-length (start .args .bytes .now) (λ e. omega (arith, at-if1 .if1 .taken)))
 
-shared-slice-read-count : tie.Need-shared-slice-read-count
-shared-slice-read-count c = search needs
-
 cast-count : tie.Need-cast-count
 cast-count c =
     let at-shared-slice-known = c .before .before in
     omega (arith, at-shared-slice-known .shared-slice-known .given 10)
-
-plain-requires-2 : tie.Need-plain-requires-2
-plain-requires-2 c κs = search needs
 
 returns-2 : tie.Need-returns-2
 returns-2 c =
@@ -36,29 +27,11 @@ returns-2 c =
     let start = at-if2 .before .before .before .before in
     simp (c .plain2 .ensures .0) (many-pairs (start .args .bytes .now) (at-if2 .if2 .taken))
 
-mul-if3 : tie.Need-mul-if3
-mul-if3 c = search needs
-
-add-if3 : tie.Need-add-if3
-add-if3 c = search needs
-
-plain-requires-3 : tie.Need-plain-requires-3
-plain-requires-3 c κs = search needs
-
 returns-3 : tie.Need-returns-3
 returns-3 c =
     let at-if3 = c .before in
     let start = at-if3 .before .before .before .before .before in
     simp (c .plain3 .ensures .0) (wrong-length (start .args .bytes .now) (at-if3 .if3 .taken))
-
-read-pairs-requires : tie.Need-read-pairs-requires
-read-pairs-requires c κs = search needs
-
-has-bad-block-requires : tie.Need-has-bad-block-requires
-has-bad-block-requires c κs = search needs
-
-plain-requires-4 : tie.Need-plain-requires-4
-plain-requires-4 c κs = search needs
 
 returns-4 : tie.Need-returns-4
 returns-4 c =
@@ -69,27 +42,6 @@ returns-4 c =
     let at-if2 = at-if3 .before in
     let start = at-if2 .before .before .before .before in
     simp (c .plain4 .ensures .0) (bad-block (start .args .bytes .now) (at-if2 .if2 .left) (at-if3 .if3 .left) (ap (any badBlock) (sym (at-read-pairs .read-pairs .ensures)) ∙ sym (at-has-bad-block .has-bad-block .ensures) ∙ at-if4 .if4 .taken))
-
-read4-requires : tie.Need-read4-requires
-read4-requires c κs = search needs
-
-shared-slice-read-word : tie.Need-shared-slice-read-word
-shared-slice-read-word c = search needs
-
-shared-slice-read-word-2 : tie.Need-shared-slice-read-word-2
-shared-slice-read-word-2 c = search needs
-
-add-word : tie.Need-add-word
-add-word c = search needs
-
-shared-slice-read-word-3 : tie.Need-shared-slice-read-word-3
-shared-slice-read-word-3 c = search needs
-
-word-requires : tie.Need-word-requires
-word-requires c κs = search needs
-
-cast-t23 : tie.Need-cast-t23
-cast-t23 c = search needs
 
 returns-5 : tie.Need-returns-5
 unfolding be2
@@ -106,26 +58,6 @@ returns-5 c =
 pub decode-answer-spec : {M : Type 1} → statement M
 decode-answer-spec =
     tie.close
-    (tie.spec
-    plain-requires
-    returns
-    shared-slice-read-count
-    cast-count
-    plain-requires-2
-    returns-2
-    mul-if3
-    add-if3
-    plain-requires-3
-    returns-3
-    read-pairs-requires
-    has-bad-block-requires
-    plain-requires-4
-    returns-4
-    read4-requires
-    shared-slice-read-word
-    shared-slice-read-word-2
-    add-word
-    shared-slice-read-word-3
-    word-requires
-    cast-t23
-    returns-5)
+    (tie.spec (search needs) returns (search needs) cast-count (search needs) returns-2 (search needs) (search needs)
+    (search needs) returns-3 (search needs) (search needs) (search needs) returns-4 (search needs) (search needs) (search needs)
+    (search needs) (search needs) (search needs) (search needs) returns-5)

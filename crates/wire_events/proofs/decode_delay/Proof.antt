@@ -5,17 +5,11 @@ use borrow.Author.Tests.{eq-eqb, ne-eqb}
 use Rattle.wire_events.proofs.decode_delay.Statement.{statement}
 use Rattle.wire_events.proofs.decode_delay.Tie as tie
 
-plain-requires : tie.Need-plain-requires
-plain-requires c κs = search needs
-
 returns : tie.Need-returns
 unfolding check
 returns c =
     let at-if1 = c .before in
     simp (c .plain .ensures .0, ne-eqb _ _ (at-if1 .if1 .taken))
-
-plain-requires-2 : tie.Need-plain-requires-2
-plain-requires-2 c κs = search needs
 
 returns-2 : tie.Need-returns-2
 unfolding check
@@ -24,4 +18,6 @@ returns-2 c =
     simp (c .plain2 .ensures .0, eq-eqb _ _ (at-if1 .if1 .left))
 
 pub decode-delay-spec : {M : Type 1} → statement M
-decode-delay-spec = tie.close (tie.spec plain-requires returns plain-requires-2 returns-2)
+decode-delay-spec =
+    tie.close
+    (tie.spec (search needs) returns (search needs) returns-2)

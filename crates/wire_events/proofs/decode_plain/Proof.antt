@@ -6,12 +6,6 @@ use mathlib.Core.Path.{_∙_, sym}
 use Rattle.wire_events.proofs.decode_plain.Statement.{statement}
 use Rattle.wire_events.proofs.decode_plain.Tie as tie
 
-scan-fields-fit-requires : tie.Need-scan-fields-fit-requires
-scan-fields-fit-requires c κs = search needs
-
-plain-requires : tie.Need-plain-requires
-plain-requires c κs = search needs
-
 returns : tie.Need-returns
 unfolding decodePlain check
 returns c =
@@ -20,9 +14,6 @@ returns c =
     let at-if1 = at-scan-fields-fit .before in
     simp (c .plain .ensures .0, eq-eqb _ _ (at-if1 .if1 .taken), sym (at-scan-fields-fit .scan-fields-fit .ensures) ∙ at-if2 .if2 .taken)
 
-plain-requires-2 : tie.Need-plain-requires-2
-plain-requires-2 c κs = search needs
-
 returns-2 : tie.Need-returns-2
 unfolding decodePlain check
 returns-2 c =
@@ -30,12 +21,6 @@ returns-2 c =
     let at-scan-fields-fit = at-if2 .before in
     let at-if1 = at-scan-fields-fit .before in
     simp (c .plain2 .ensures .0, eq-eqb _ _ (at-if1 .if1 .taken), sym (at-scan-fields-fit .scan-fields-fit .ensures) ∙ at-if2 .if2 .left)
-
-scan-fields-fit-requires-2 : tie.Need-scan-fields-fit-requires-2
-scan-fields-fit-requires-2 c κs = search needs
-
-plain-requires-3 : tie.Need-plain-requires-3
-plain-requires-3 c κs = search needs
 
 returns-3 : tie.Need-returns-3
 unfolding decodePlain check
@@ -46,9 +31,6 @@ returns-3 c =
     let at-if1 = at-if3 .before in
     simp (c .plain3 .ensures .0, ne-eqb _ _ (at-if1 .if1 .left), eq-eqb _ _ (at-if3 .if3 .taken), sym (at-scan-fields-fit2 .scan-fields-fit2 .ensures) ∙ at-if4 .if4 .taken)
 
-plain-requires-4 : tie.Need-plain-requires-4
-plain-requires-4 c κs = search needs
-
 returns-4 : tie.Need-returns-4
 unfolding decodePlain check
 returns-4 c =
@@ -58,9 +40,6 @@ returns-4 c =
     let at-if1 = at-if3 .before in
     simp (c .plain4 .ensures .0, ne-eqb _ _ (at-if1 .if1 .left), eq-eqb _ _ (at-if3 .if3 .taken), sym (at-scan-fields-fit2 .scan-fields-fit2 .ensures) ∙ at-if4 .if4 .left)
 
-decode-shutdown-requires : tie.Need-decode-shutdown-requires
-decode-shutdown-requires c κs = search needs
-
 returns-5 : tie.Need-returns-5
 unfolding decodePlain
 returns-5 c =
@@ -68,9 +47,6 @@ returns-5 c =
     let at-if3 = at-if5 .before in
     let at-if1 = at-if3 .before in
     simp (ne-eqb _ _ (at-if1 .if1 .left), ne-eqb _ _ (at-if3 .if3 .left), eq-eqb _ _ (at-if5 .if5 .taken)) (c .decode-shutdown .ensures)
-
-plain-requires-5 : tie.Need-plain-requires-5
-plain-requires-5 c κs = search needs
 
 returns-6 : tie.Need-returns-6
 unfolding decodePlain
@@ -81,9 +57,6 @@ returns-6 c =
     let at-if1 = at-if3 .before in
     simp (c .plain5 .ensures .0, ne-eqb _ _ (at-if1 .if1 .left), ne-eqb _ _ (at-if3 .if3 .left), ne-eqb _ _ (at-if5 .if5 .left), eq-eqb _ _ (at-if6 .if6 .taken))
 
-decode-delay-requires : tie.Need-decode-delay-requires
-decode-delay-requires c κs = search needs
-
 returns-7 : tie.Need-returns-7
 unfolding decodePlain
 returns-7 c =
@@ -93,9 +66,6 @@ returns-7 c =
     let at-if3 = at-if5 .before in
     let at-if1 = at-if3 .before in
     simp (ne-eqb _ _ (at-if1 .if1 .left), ne-eqb _ _ (at-if3 .if3 .left), ne-eqb _ _ (at-if5 .if5 .left), ne-eqb _ _ (at-if6 .if6 .left), eq-eqb _ _ (at-if7 .if7 .taken)) (c .decode-delay .ensures)
-
-plain-requires-6 : tie.Need-plain-requires-6
-plain-requires-6 c κs = search needs
 
 returns-8 : tie.Need-returns-8
 unfolding decodePlain
@@ -110,22 +80,5 @@ returns-8 c =
 pub decode-plain-spec : {M : Type 1} → statement M
 decode-plain-spec =
     tie.close
-    (tie.spec
-    scan-fields-fit-requires
-    plain-requires
-    returns
-    plain-requires-2
-    returns-2
-    scan-fields-fit-requires-2
-    plain-requires-3
-    returns-3
-    plain-requires-4
-    returns-4
-    decode-shutdown-requires
-    returns-5
-    plain-requires-5
-    returns-6
-    decode-delay-requires
-    returns-7
-    plain-requires-6
-    returns-8)
+    (tie.spec (search needs) (search needs) returns (search needs) returns-2 (search needs) (search needs) returns-3
+    (search needs) returns-4 (search needs) returns-5 (search needs) returns-6 (search needs) returns-7 (search needs) returns-8)

@@ -5,17 +5,11 @@ use borrow.Author.Tests.{eq-eqb, ne-eqb}
 use Rattle.wire_events.proofs.decode_shutdown.Statement.{statement}
 use Rattle.wire_events.proofs.decode_shutdown.Tie as tie
 
-plain-requires : tie.Need-plain-requires
-plain-requires c κs = search needs
-
 returns : tie.Need-returns
 unfolding check
 returns c =
     let at-if1 = c .before in
     simp (c .plain .ensures .0, ne-eqb _ _ (at-if1 .if1 .taken))
-
-plain-requires-2 : tie.Need-plain-requires-2
-plain-requires-2 c κs = search needs
 
 returns-2 : tie.Need-returns-2
 unfolding check
@@ -23,9 +17,6 @@ returns-2 c =
     let at-if2 = c .before in
     let at-if1 = at-if2 .before in
     simp (c .plain2 .ensures .0, eq-eqb _ _ (at-if1 .if1 .left), ne-eqb _ _ (at-if2 .if2 .taken))
-
-plain-requires-3 : tie.Need-plain-requires-3
-plain-requires-3 c κs = search needs
 
 returns-3 : tie.Need-returns-3
 unfolding check
@@ -37,4 +28,4 @@ returns-3 c =
 pub decode-shutdown-spec : {M : Type 1} → statement M
 decode-shutdown-spec =
     tie.close
-    (tie.spec plain-requires returns plain-requires-2 returns-2 plain-requires-3 returns-3)
+    (tie.spec (search needs) returns (search needs) returns-2 (search needs) returns-3)

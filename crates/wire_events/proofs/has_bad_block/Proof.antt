@@ -19,9 +19,6 @@ Inv-loop pairs n i₀ i = (i ≤ n) × (length (pairs .blocks) ≡ maxPairs) × 
 abbrev μ-loop : tie.MeasureT-loop
 μ-loop pairs n i₀ i = n - i
 
-len-requires : tie.Need-len-requires Inv-loop μ-loop
-len-requires c κs = search needs
-
 loop-holds : tie.Need-loop-holds Inv-loop μ-loop
 loop-holds c = (omega arith, search needs, search needs, refl)
 
@@ -29,9 +26,6 @@ element-copy-out-is-bad-block : tie.Need-element-copy-out-is-bad-block Inv-loop 
 element-copy-out-is-bad-block c =
     let at-len = c .before .before in
     omega (arith, at-len .len .ensures, c .loop-test .taken)
-
-is-bad-block-requires : tie.Need-is-bad-block-requires Inv-loop μ-loop
-is-bad-block-requires c κs = search needs
 
 returns : tie.Need-returns Inv-loop μ-loop
 unfolding pairsOf badBlock pairOf
@@ -50,9 +44,6 @@ add-i c =
     let at-loop-test = c .before .before .before in
     let at-len = at-loop-test .before .before in
     omega (arith, at-len .len .ensures, at-loop-test .loop-test .taken)
-
-loop-less : tie.Need-loop-less Inv-loop μ-loop
-loop-less c = search needs
 
 loop-again : tie.Need-loop-again Inv-loop μ-loop
 unfolding pairsOf badBlock pairOf
@@ -79,15 +70,5 @@ returns-2 c =
 pub has-bad-block-spec : {M : Type 1} → statement M
 has-bad-block-spec =
     tie.close
-    (tie.spec
-    Inv-loop
-    μ-loop
-    len-requires
-    loop-holds
-    element-copy-out-is-bad-block
-    is-bad-block-requires
-    returns
-    add-i
-    loop-less
-    loop-again
-    returns-2)
+    (tie.spec Inv-loop μ-loop (search needs) loop-holds element-copy-out-is-bad-block (search needs) returns add-i
+    (search needs) loop-again returns-2)

@@ -20,39 +20,9 @@ Inv-loop bytes count pairs₀ i₀ pairs i = (i ≤ count) × (length (pairs .bl
 abbrev μ-loop : tie.MeasureT-loop
 μ-loop bytes count pairs₀ i₀ pairs i = count - i
 
-none-requires : tie.Need-none-requires Inv-loop μ-loop
-none-requires c κs = search needs
-
 loop-holds : tie.Need-loop-holds Inv-loop μ-loop
 unfolding pairsFrom firsts
 loop-holds c = (omega arith, search needs, search needs, refl)
-
-mul-at : tie.Need-mul-at Inv-loop μ-loop
-mul-at c = search needs
-
-add-at : tie.Need-add-at Inv-loop μ-loop
-add-at c = search needs
-
-shared-slice-read-pairs : tie.Need-shared-slice-read-pairs Inv-loop μ-loop
-shared-slice-read-pairs c = search needs
-
-element-write-pairs : tie.Need-element-write-pairs Inv-loop μ-loop
-element-write-pairs c = search needs
-
-add-pairs : tie.Need-add-pairs Inv-loop μ-loop
-add-pairs c = search needs
-
-shared-slice-read-pairs-2 : tie.Need-shared-slice-read-pairs-2 Inv-loop μ-loop
-shared-slice-read-pairs-2 c = search needs
-
-element-write-pairs-2 : tie.Need-element-write-pairs-2 Inv-loop μ-loop
-element-write-pairs-2 c = search needs
-
-add-i : tie.Need-add-i Inv-loop μ-loop
-add-i c = search needs
-
-loop-less : tie.Need-loop-less Inv-loop μ-loop
-loop-less c = search needs
 
 loop-again : tie.Need-loop-again Inv-loop μ-loop
 loop-again c =
@@ -77,19 +47,5 @@ returns c =
 pub read-pairs-spec : {M : Type 1} → statement M
 read-pairs-spec =
     tie.close
-    (tie.spec
-    Inv-loop
-    μ-loop
-    none-requires
-    loop-holds
-    mul-at
-    add-at
-    shared-slice-read-pairs
-    element-write-pairs
-    add-pairs
-    shared-slice-read-pairs-2
-    element-write-pairs-2
-    add-i
-    loop-less
-    loop-again
-    returns)
+    (tie.spec Inv-loop μ-loop (search needs) loop-holds (search needs) (search needs) (search needs) (search needs)
+    (search needs) (search needs) (search needs) (search needs) (search needs) loop-again returns)

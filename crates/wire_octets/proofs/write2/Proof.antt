@@ -9,23 +9,8 @@ use native.Mathlib.Omega.{arith}
 use Rattle.wire_octets.proofs.write2.Statement.{statement}
 use Rattle.wire_octets.proofs.write2.Tie as tie
 
-low-requires : tie.Need-low-requires
-low-requires c κs = search needs
-
-slice-write-buffer : tie.Need-slice-write-buffer
-slice-write-buffer c = search needs
-
-low-requires-2 : tie.Need-low-requires-2
-low-requires-2 c κs = search needs
-
-add-buffer : tie.Need-add-buffer
-add-buffer c = search needs
-
 slice-write-buffer-2 : tie.Need-slice-write-buffer-2
 slice-write-buffer-2 c = simp length-set (omega arith)
-
-same-length : tie.Need-same-length
-same-length c = search needs
 
 returns : tie.Need-returns
 unfolding two
@@ -37,11 +22,4 @@ returns c =
 pub write2-spec : {M : Type 1} → statement M
 write2-spec =
     tie.close
-    (tie.spec
-    low-requires
-    slice-write-buffer
-    low-requires-2
-    add-buffer
-    slice-write-buffer-2
-    same-length
-    returns)
+    (tie.spec (search needs) (search needs) (search needs) (search needs) slice-write-buffer-2 (search needs) returns)

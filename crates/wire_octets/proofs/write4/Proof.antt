@@ -9,18 +9,6 @@ use mathlib.Core.Path.{_∙_, ap}
 use Rattle.wire_octets.proofs.write4.Statement.{statement}
 use Rattle.wire_octets.proofs.write4.Tie as tie
 
-write2-requires : tie.Need-write2-requires
-write2-requires c κs = search needs
-
-add-write2 : tie.Need-add-write2
-add-write2 c = search needs
-
-write2-requires-2 : tie.Need-write2-requires-2
-write2-requires-2 c κs = search needs
-
-same-length : tie.Need-same-length
-same-length c = search needs
-
 returns : tie.Need-returns
 unfolding four two
 returns c =
@@ -30,4 +18,6 @@ returns c =
     at-write22 .write22 .ensures ∙ ap (λ (b : List ℕ). sets b (start .args .at + 2) (two (start .args .n))) (at-write2 .write2 .ensures) ∙ sets-append (start .args .buffer .now) (start .args .at) (two (start .args .n / 65536)) (two (start .args .n))
 
 pub write4-spec : {M : Type 1} → statement M
-write4-spec = tie.close (tie.spec write2-requires add-write2 write2-requires-2 same-length returns)
+write4-spec =
+    tie.close
+    (tie.spec (search needs) (search needs) (search needs) (search needs) returns)

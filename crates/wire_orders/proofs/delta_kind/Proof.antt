@@ -8,9 +8,6 @@ use Rattle.wire_orders.proofs.delta_kind.Tie as tie
 enum-told : tie.Need-enum-told
 enum-told c = search needs
 
-enum-told-2 : tie.Need-enum-told-2
-enum-told-2 c = search needs
-
 returns : tie.Need-returns
 unfolding kindOf
 returns c = rw (c .enum-told .given .1) refl
@@ -20,4 +17,6 @@ unfolding kindOf
 returns-2 c = rw (c .enum-told2 .given .1) refl
 
 pub delta-kind-spec : {M : Type 1} → statement M
-delta-kind-spec = tie.close (tie.spec enum-told enum-told-2 returns returns-2)
+delta-kind-spec =
+    tie.close
+    (tie.spec enum-told (search needs) returns returns-2)

@@ -8,15 +8,6 @@ use Rattle.wire_orders.proofs.notice_kind.Tie as tie
 enum-told : tie.Need-enum-told
 enum-told c = search needs
 
-enum-told-2 : tie.Need-enum-told-2
-enum-told-2 c = search needs
-
-enum-told-3 : tie.Need-enum-told-3
-enum-told-3 c = search needs
-
-enum-told-4 : tie.Need-enum-told-4
-enum-told-4 c = search needs
-
 returns : tie.Need-returns
 unfolding kindOf
 returns c = rw (c .enum-told .given .1) refl
@@ -36,4 +27,4 @@ returns-4 c = rw (c .enum-told4 .given .1) refl
 pub notice-kind-spec : {M : Type 1} → statement M
 notice-kind-spec =
     tie.close
-    (tie.spec enum-told enum-told-2 enum-told-3 enum-told-4 returns returns-2 returns-3 returns-4)
+    (tie.spec enum-told (search needs) (search needs) (search needs) returns returns-2 returns-3 returns-4)

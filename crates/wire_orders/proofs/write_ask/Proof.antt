@@ -26,9 +26,6 @@ add-result c =
     let start = at-write-head .before .before .before in
     omega (arith, order-length (start .args .pass) (ASK (start .args .position .0)), head-end (start .args .pass) (at-write-head .write-head .ensures))
 
-same-length : tie.Need-same-length
-same-length c = search needs
-
 returns : tie.Need-returns
 unfolding kindOf bodyOf
 returns c =
@@ -38,4 +35,5 @@ returns c =
 
 pub write-ask-spec : {M : Type 1} → statement M
 write-ask-spec =
-    tie.close (tie.spec write-head-requires slice-write-out add-result same-length returns)
+    tie.close
+    (tie.spec write-head-requires slice-write-out add-result (λ c. search needs) returns)

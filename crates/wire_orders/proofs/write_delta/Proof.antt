@@ -4,18 +4,9 @@ use borrow.Author.Needs.{needs}
 use Rattle.wire_orders.proofs.write_delta.Statement.{statement}
 use Rattle.wire_orders.proofs.write_delta.Tie as tie
 
-slice-aggregate-write-deltas : tie.Need-slice-aggregate-write-deltas
-slice-aggregate-write-deltas c = search needs
-
-slice-aggregate-write-deltas-2 : tie.Need-slice-aggregate-write-deltas-2
-slice-aggregate-write-deltas-2 c = search needs
-
 write-deltas-requires : tie.Need-write-deltas-requires
 unfolding pairsOf
 write-deltas-requires c κs = c .before .before .before .before .before .before .pre
-
-same-length : tie.Need-same-length
-same-length c = search needs
 
 returns : tie.Need-returns
 unfolding pairsOf
@@ -24,9 +15,4 @@ returns c = c .before .before .write-deltas .ensures
 pub write-delta-spec : {M : Type 1} → statement M
 write-delta-spec =
     tie.close
-    (tie.spec
-    slice-aggregate-write-deltas
-    slice-aggregate-write-deltas-2
-    write-deltas-requires
-    same-length
-    returns)
+    (tie.spec (λ c. search needs) (λ c. search needs) write-deltas-requires (search needs) returns)

@@ -20,23 +20,8 @@ Inv-loop out₀ at pass delta size blocks numbers count most held end₀ from₀
 abbrev μ-loop : tie.MeasureT-loop
 μ-loop out₀ at pass delta size blocks numbers count most held end₀ from₀ out end from = held - from
 
-sub-most : tie.Need-sub-most Inv-loop μ-loop
-sub-most c = search needs
-
-least-requires : tie.Need-least-requires Inv-loop μ-loop
-least-requires c κs = search needs
-
-least-requires-2 : tie.Need-least-requires-2 Inv-loop μ-loop
-least-requires-2 c κs = search needs
-
 loop-holds : tie.Need-loop-holds Inv-loop μ-loop
 loop-holds c = (omega arith, refl, owes-start _ _ _)
-
-sub-least : tie.Need-sub-least Inv-loop μ-loop
-sub-least c = search needs
-
-least-requires-3 : tie.Need-least-requires-3 Inv-loop μ-loop
-least-requires-3 c κs = search needs
 
 write-part-requires : tie.Need-write-part-requires Inv-loop μ-loop
 write-part-requires c κs =
@@ -49,12 +34,6 @@ write-part-requires c κs =
     let n = at-least .least3 .ensures in
     let room = part-room (a .pass) (a .delta) (a .size) (a .blocks .now) (a .numbers .now) (a .count) (at-held .least2 .result) (at-loop .loop .from) (at-least .least3 .result) (start .pre .0) held (omega arith) n (at-loop .loop .inv .2) (start .pre .1) in
     (omega arith, omega arith, omega arith)
-
-add-from : tie.Need-add-from Inv-loop μ-loop
-add-from c = search needs
-
-loop-less : tie.Need-loop-less Inv-loop μ-loop
-loop-less c = search needs
 
 loop-again : tie.Need-loop-again Inv-loop μ-loop
 loop-again c =
@@ -69,9 +48,6 @@ loop-again c =
     let n = at-least .least3 .ensures in
     (omega arith, at-write-part .write-part .kept .0 ∙ w .1, part-turn (a .pass) (a .delta) (a .size) (a .blocks .now) (a .numbers .now) (a .count) (at-held .least2 .result) (at-loop .loop .from) (at-least .least3 .result) (start .pre .0) held (omega arith) n (at-write-part .write-part .ensures) (w .2))
 
-same-length : tie.Need-same-length Inv-loop μ-loop
-same-length c = search needs
-
 returns : tie.Need-returns Inv-loop μ-loop
 returns c =
     let at-loop = c .before in
@@ -84,18 +60,5 @@ returns c =
 pub write-deltas-spec : {M : Type 1} → statement M
 write-deltas-spec =
     tie.close
-    (tie.spec
-    Inv-loop
-    μ-loop
-    sub-most
-    least-requires
-    least-requires-2
-    loop-holds
-    sub-least
-    least-requires-3
-    write-part-requires
-    add-from
-    loop-less
-    loop-again
-    same-length
-    returns)
+    (tie.spec Inv-loop μ-loop (search needs) (search needs) (search needs) loop-holds (search needs) (search needs)
+    write-part-requires (search needs) (search needs) loop-again (search needs) returns)

@@ -7,29 +7,14 @@ use native.Mathlib.Omega.{arith}
 use Rattle.wire_orders.proofs.write_head.Statement.{statement}
 use Rattle.wire_orders.proofs.write_head.Tie as tie
 
-slice-write-out : tie.Need-slice-write-out
-slice-write-out c = search needs
-
-add-out : tie.Need-add-out
-add-out c = search needs
-
 slice-write-out-2 : tie.Need-slice-write-out-2
 slice-write-out-2 c = simp length-set (omega arith)
-
-add-out-2 : tie.Need-add-out-2
-add-out-2 c = search needs
 
 slice-write-out-3 : tie.Need-slice-write-out-3
 slice-write-out-3 c = simp length-set (omega arith)
 
-add-write4 : tie.Need-add-write4
-add-write4 c = search needs
-
 write4-requires : tie.Need-write4-requires
 write4-requires c κs = simp length-set (omega arith)
-
-add-result : tie.Need-add-result
-add-result c = search needs
 
 same-length : tie.Need-same-length
 same-length c =
@@ -45,14 +30,5 @@ returns c =
 pub write-head-spec : {M : Type 1} → statement M
 write-head-spec =
     tie.close
-    (tie.spec
-    slice-write-out
-    add-out
-    slice-write-out-2
-    add-out-2
-    slice-write-out-3
-    add-write4
-    write4-requires
-    add-result
-    same-length
-    returns)
+    (tie.spec (search needs) (search needs) slice-write-out-2 (search needs) slice-write-out-3 (search needs) write4-requires
+    (search needs) same-length returns)

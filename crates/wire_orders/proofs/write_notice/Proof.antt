@@ -6,16 +6,10 @@ use borrow.Author.Needs.{needs}
 use Rattle.wire_orders.proofs.write_notice.Statement.{statement}
 use Rattle.wire_orders.proofs.write_notice.Tie as tie
 
-notice-kind-requires : tie.Need-notice-kind-requires
-notice-kind-requires c κs = search needs
-
 write-head-requires : tie.Need-write-head-requires
 write-head-requires c κs =
     let start = c .before .before .before in
     omega (arith, order-length (start .args .pass) (noticeOf (start .args .notice)))
-
-same-length : tie.Need-same-length
-same-length c = search needs
 
 returns : tie.Need-returns
 returns c =
@@ -26,4 +20,5 @@ returns c =
 
 pub write-notice-spec : {M : Type 1} → statement M
 write-notice-spec =
-    tie.close (tie.spec notice-kind-requires write-head-requires same-length returns)
+    tie.close
+    (tie.spec (search needs) write-head-requires (search needs) returns)

@@ -20,35 +20,11 @@ Inv-loop out₀ at blocks numbers from n to end₀ i₀ out end i = (from ≤ i)
 abbrev μ-loop : tie.MeasureT-loop
 μ-loop out₀ at blocks numbers from n to end₀ i₀ out end i = to - i
 
-add-to : tie.Need-add-to Inv-loop μ-loop
-add-to c = search needs
-
 loop-holds : tie.Need-loop-holds Inv-loop μ-loop
 loop-holds c = (omega arith, omega arith, refl, omega arith, owes-start _ _ _)
 
-shared-slice-read-out : tie.Need-shared-slice-read-out Inv-loop μ-loop
-shared-slice-read-out c = search needs
-
-slice-write-out : tie.Need-slice-write-out Inv-loop μ-loop
-slice-write-out c = search needs
-
-shared-slice-read-out-2 : tie.Need-shared-slice-read-out-2 Inv-loop μ-loop
-shared-slice-read-out-2 c = search needs
-
-add-out : tie.Need-add-out Inv-loop μ-loop
-add-out c = search needs
-
 slice-write-out-2 : tie.Need-slice-write-out-2 Inv-loop μ-loop
 slice-write-out-2 c = simp length-set (omega arith)
-
-add-end : tie.Need-add-end Inv-loop μ-loop
-add-end c = search needs
-
-add-i : tie.Need-add-i Inv-loop μ-loop
-add-i c = search needs
-
-loop-less : tie.Need-loop-less Inv-loop μ-loop
-loop-less c = search needs
 
 loop-again : tie.Need-loop-again Inv-loop μ-loop
 loop-again c =
@@ -61,9 +37,6 @@ loop-again c =
     let turn = pairs-on bs ns i (start .args .from + start .args .n) (omega arith) (omega arith) in
     (omega arith, omega arith, simp length-set (w .2), omega arith, owes-on (getD bs i 0 ∷ getD ns i 0 ∷ []) turn (wrote-two _ _ _ _) (w .4))
 
-same-length : tie.Need-same-length Inv-loop μ-loop
-same-length c = search needs
-
 returns : tie.Need-returns Inv-loop μ-loop
 returns c =
     let at-loop = c .before in
@@ -73,19 +46,5 @@ returns c =
 pub write-pairs-spec : {M : Type 1} → statement M
 write-pairs-spec =
     tie.close
-    (tie.spec
-    Inv-loop
-    μ-loop
-    add-to
-    loop-holds
-    shared-slice-read-out
-    slice-write-out
-    shared-slice-read-out-2
-    add-out
-    slice-write-out-2
-    add-end
-    add-i
-    loop-less
-    loop-again
-    same-length
-    returns)
+    (tie.spec Inv-loop μ-loop (search needs) loop-holds (search needs) (search needs) (search needs) (search needs)
+    slice-write-out-2 (search needs) (search needs) (search needs) loop-again (search needs) returns)

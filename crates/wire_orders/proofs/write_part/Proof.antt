@@ -8,15 +8,6 @@ use borrow.Author.Needs.{needs}
 use Rattle.wire_orders.proofs.write_part.Statement.{statement}
 use Rattle.wire_orders.proofs.write_part.Tie as tie
 
-delta-kind-requires : tie.Need-delta-kind-requires
-delta-kind-requires c κs = search needs
-
-write-head-requires : tie.Need-write-head-requires
-write-head-requires c κs = search needs
-
-cast-out : tie.Need-cast-out
-cast-out c = search needs
-
 slice-write-out : tie.Need-slice-write-out
 slice-write-out c =
     let at-write-head = c .before .before in
@@ -56,12 +47,5 @@ returns c =
 pub write-part-spec : {M : Type 1} → statement M
 write-part-spec =
     tie.close
-    (tie.spec
-    delta-kind-requires
-    write-head-requires
-    cast-out
-    slice-write-out
-    add-write-pairs
-    write-pairs-requires
-    same-length
+    (tie.spec (search needs) (search needs) (search needs) slice-write-out add-write-pairs write-pairs-requires same-length
     returns)

@@ -39,9 +39,6 @@ slice-write-out c = omega (arith, room (c .before .before))
 add-write2 : tie.Need-add-write2
 add-write2 c = omega (arith, room (c .before .before .before))
 
-cast-write2 : tie.Need-cast-write2
-cast-write2 c = search needs
-
 write2-requires : tie.Need-write2-requires
 write2-requires c κs = simp length-set (omega (arith, room (c .before .before .before .before)))
 
@@ -82,18 +79,5 @@ returns c =
 pub write-set-spec : {M : Type 1} → statement M
 write-set-spec =
     tie.close
-    (tie.spec
-    write-head-requires
-    slice-write-out
-    add-write2
-    cast-write2
-    write2-requires
-    add-out
-    slice-write-out-2
-    add-out-2
-    slice-write-out-3
-    add-out-3
-    slice-write-out-4
-    add-result
-    same-length
-    returns)
+    (tie.spec write-head-requires slice-write-out add-write2 (search needs) write2-requires add-out slice-write-out-2 add-out-2
+    slice-write-out-3 add-out-3 slice-write-out-4 add-result same-length returns)

@@ -6,12 +6,6 @@ use borrow.Author.Needs.{needs}
 use Rattle.lathepetal.proofs.ring.lathepetal_fresh.Statement.{statement}
 use Rattle.lathepetal.proofs.ring.lathepetal_fresh.Tie as tie
 
-fresh-requires : tie.Need-fresh-requires
-fresh-requires c κs = search needs
-
-number-requires : tie.Need-number-requires
-number-requires c κs = search needs
-
 returns : tie.Need-returns
 returns c =
     let at-fresh = c .before .before in
@@ -20,4 +14,6 @@ returns c =
     (c .number .ensures ∙ ap makeNumberOf (h .0) ∙ made (start .args .l), h .1, h .2)
 
 pub lathepetal-fresh-spec : {M : Type 1} → statement M
-lathepetal-fresh-spec = tie.close (tie.spec fresh-requires number-requires returns)
+lathepetal-fresh-spec =
+    tie.close
+    (tie.spec (search needs) (search needs) returns)

@@ -5,18 +5,6 @@ use borrow.Author.Needs.{needs}
 use Rattle.lathepetal.proofs.ring.lathepetal_look_up.Statement.{statement}
 use Rattle.lathepetal.proofs.ring.lathepetal_look_up.Tie as tie
 
-look-up-requires : tie.Need-look-up-requires
-look-up-requires c κs = search needs
-
-position-requires : tie.Need-position-requires
-position-requires c κs = search needs
-
-address-requires : tie.Need-address-requires
-address-requires c κs = search needs
-
-number-requires : tie.Need-number-requires
-number-requires c κs = search needs
-
 returns : tie.Need-returns
 returns c =
     let at-address = c .before in
@@ -28,4 +16,4 @@ returns c =
 pub lathepetal-look-up-spec : {M : Type 1} → statement M
 lathepetal-look-up-spec =
     tie.close
-    (tie.spec look-up-requires position-requires address-requires number-requires returns)
+    (tie.spec (search needs) (search needs) (search needs) (search needs) returns)

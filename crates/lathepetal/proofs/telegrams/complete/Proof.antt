@@ -8,12 +8,6 @@ use Rattle.lathepetal.proofs.telegrams.complete.Tie as tie
 enum-told : tie.Need-enum-told
 enum-told c = search needs
 
-enum-told-2 : tie.Need-enum-told-2
-enum-told-2 c = search needs
-
-enum-told-3 : tie.Need-enum-told-3
-enum-told-3 c = search needs
-
 returns : tie.Need-returns
 unfolding completeOf
 returns c = rw (c .enum-told .given .1) refl
@@ -27,4 +21,6 @@ unfolding completeOf
 returns-3 c = rw (c .enum-told3 .given .1) refl
 
 pub complete-spec : {M : Type 1} → statement M
-complete-spec = tie.close (tie.spec enum-told enum-told-2 enum-told-3 returns returns-2 returns-3)
+complete-spec =
+    tie.close
+    (tie.spec enum-told (search needs) (search needs) returns returns-2 returns-3)

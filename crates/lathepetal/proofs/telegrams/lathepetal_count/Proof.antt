@@ -5,15 +5,6 @@ use borrow.Author.Needs.{needs}
 use Rattle.lathepetal.proofs.telegrams.lathepetal_count.Statement.{statement}
 use Rattle.lathepetal.proofs.telegrams.lathepetal_count.Tie as tie
 
-count-requires : tie.Need-count-requires
-count-requires c κs = search needs
-
-number-requires : tie.Need-number-requires
-number-requires c κs = search needs
-
-telegrams-requires : tie.Need-telegrams-requires
-telegrams-requires c κs = search needs
-
 returns : tie.Need-returns
 returns c =
     let at-number = c .before in
@@ -23,4 +14,5 @@ returns c =
 
 pub lathepetal-count-spec : {M : Type 1} → statement M
 lathepetal-count-spec =
-    tie.close (tie.spec count-requires number-requires telegrams-requires returns)
+    tie.close
+    (tie.spec (search needs) (search needs) (search needs) returns)

@@ -6,18 +6,6 @@ use borrow.Author.Needs.{needs}
 use Rattle.lathepetal.proofs.telegrams.lathepetal_cut.Statement.{statement}
 use Rattle.lathepetal.proofs.telegrams.lathepetal_cut.Tie as tie
 
-cut-requires : tie.Need-cut-requires
-cut-requires c κs = search needs
-
-number-requires : tie.Need-number-requires
-number-requires c κs = search needs
-
-length-requires : tie.Need-length-requires
-length-requires c κs = search needs
-
-same-length : tie.Need-same-length
-same-length c = search needs
-
 returns : tie.Need-returns
 returns c =
     let at-number = c .before in
@@ -29,4 +17,5 @@ returns c =
 
 pub lathepetal-cut-spec : {M : Type 1} → statement M
 lathepetal-cut-spec =
-    tie.close (tie.spec cut-requires number-requires length-requires same-length returns)
+    tie.close
+    (tie.spec (search needs) (search needs) (search needs) (search needs) returns)

@@ -4,24 +4,6 @@ use borrow.Author.Needs.{needs}
 use Rattle.lathepetal.proofs.telegrams.lathepetal_join.Statement.{statement}
 use Rattle.lathepetal.proofs.telegrams.lathepetal_join.Tie as tie
 
-join-requires : tie.Need-join-requires
-join-requires c κs = search needs
-
-number-requires : tie.Need-number-requires
-number-requires c κs = search needs
-
-complete-requires : tie.Need-complete-requires
-complete-requires c κs = search needs
-
-msg-id-requires : tie.Need-msg-id-requires
-msg-id-requires c κs = search needs
-
-length-requires : tie.Need-length-requires
-length-requires c κs = search needs
-
-same-length : tie.Need-same-length
-same-length c = search needs
-
 returns : tie.Need-returns
 returns c =
     let at-msg-id = c .before in
@@ -33,11 +15,4 @@ returns c =
 pub lathepetal-join-spec : {M : Type 1} → statement M
 lathepetal-join-spec =
     tie.close
-    (tie.spec
-    join-requires
-    number-requires
-    complete-requires
-    msg-id-requires
-    length-requires
-    same-length
-    returns)
+    (tie.spec (search needs) (search needs) (search needs) (search needs) (search needs) (search needs) returns)

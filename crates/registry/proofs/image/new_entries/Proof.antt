@@ -8,12 +8,11 @@ use mathlib.Core.Path.{_∙_, ap}
 use Rattle.registry.proofs.image.new_entries.Statement.{statement}
 use Rattle.registry.proofs.image.new_entries.Tie as tie
 
-new-requires : tie.Need-new-requires
-new-requires c κs = search needs
-
 returns : tie.Need-returns
 unfolding rowsOf
 returns c = λ k h. firsts-replicate rowOf k maxUnits (c .new .result) h ∙ ap (replicate k) (c .new .ensures)
 
 pub new-entries-spec : {M : Type 1} → statement M
-new-entries-spec = tie.close (tie.spec new-requires returns)
+new-entries-spec =
+    tie.close
+    (tie.spec (search needs) returns)

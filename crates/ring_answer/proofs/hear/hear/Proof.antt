@@ -69,53 +69,11 @@ module _ (v : tie.After-verdict) where
       v .before .before .survey-of .ensures .held
       ∙ (λ t. orEach (replicate maxPairs false) (map (holds (sym (seat-pairs (rows v) (startOf v .args .seat) refl inside noRow refl) t)) (announced v)))
 
-mul-entry : tie.Need-mul-entry
-mul-entry c = search needs
-
-array-copy-out-entry : tie.Need-array-copy-out-entry
-array-copy-out-entry c = search needs
-
-survey-of-requires : tie.Need-survey-of-requires
-survey-of-requires c κs = search needs
-
-verdict-requires : tie.Need-verdict-requires
-verdict-requires c κs = search needs
-
 enum-told : tie.Need-enum-told
 enum-told c = search needs
 
-ignored-requires : tie.Need-ignored-requires
-ignored-requires c κs = search needs
-
-unrenumbered-requires : tie.Need-unrenumbered-requires
-unrenumbered-requires c κs = search needs
-
-enum-told-2 : tie.Need-enum-told-2
-enum-told-2 c = search needs
-
-unrenumbered-requires-2 : tie.Need-unrenumbered-requires-2
-unrenumbered-requires-2 c κs = search needs
-
-enum-told-3 : tie.Need-enum-told-3
-enum-told-3 c = search needs
-
-unrenumbered-requires-3 : tie.Need-unrenumbered-requires-3
-unrenumbered-requires-3 c κs = search needs
-
-enum-told-4 : tie.Need-enum-told-4
-enum-told-4 c = search needs
-
-unrenumbered-requires-4 : tie.Need-unrenumbered-requires-4
-unrenumbered-requires-4 c κs = search needs
-
-enum-told-5 : tie.Need-enum-told-5
-enum-told-5 c = search needs
-
 keep-requires : tie.Need-keep-requires
 keep-requires c κs = let v = c .before .before .before in (startOf v .pre, held-by v)
-
-registered-requires : tie.Need-registered-requires
-registered-requires c κs = search needs
 
 returns : tie.Need-returns
 unfolding rowAfter stepAfter
@@ -162,25 +120,6 @@ returns-5 c =
 pub hear-spec : {M : Type 1} → statement M
 hear-spec =
     tie.close
-    (tie.spec
-    mul-entry
-    array-copy-out-entry
-    survey-of-requires
-    verdict-requires
-    enum-told
-    ignored-requires
-    unrenumbered-requires
-    enum-told-2
-    unrenumbered-requires-2
-    enum-told-3
-    unrenumbered-requires-3
-    enum-told-4
-    unrenumbered-requires-4
-    enum-told-5
-    keep-requires
-    registered-requires
-    returns
-    returns-2
-    returns-3
-    returns-4
-    returns-5)
+    (tie.spec (search needs) (search needs) (search needs) (search needs) enum-told (search needs) (search needs) (search needs)
+    (search needs) (search needs) (search needs) (search needs) (search needs) (search needs) keep-requires (search needs)
+    returns returns-2 returns-3 returns-4 returns-5)

@@ -47,18 +47,6 @@ module _ (g : tie.After-good-pairs) where
       let numbers : length (kept .numbers) ≡ maxPairs = search (needs, n) in
       pairs-length _ (kept .blocks) (kept .numbers) blocks numbers (kept .count)
 
-judge-requires : tie.Need-judge-requires
-judge-requires c κs = search needs
-
-good-pairs-requires : tie.Need-good-pairs-requires
-good-pairs-requires c κs = search needs
-
-len-requires : tie.Need-len-requires
-len-requires c κs = search needs
-
-len-requires-2 : tie.Need-len-requires-2
-len-requires-2 c κs = search needs
-
 returns : tie.Need-returns
 returns c =
     let at-len-2 = c .before in
@@ -69,9 +57,6 @@ returns c =
       pairs = pairs-for (taken g) (pairsOf (ann g)) (few g) (g .before .judge .result) (start g .args .held) (start g .pre .1) (g .before .judge .ensures) (g .good-pairs .ensures);
       step = set-none (taken g) (pairsOf (ann g)) (few g) (g .before .judge .result) (start g .args .held) (start g .pre .1) (g .before .judge .ensures) (g .good-pairs .ensures) all;
     }
-
-renumbering-requires : tie.Need-renumbering-requires
-renumbering-requires c κs = search needs
 
 returns-2 : tie.Need-returns-2
 returns-2 c =
@@ -84,11 +69,4 @@ returns-2 c =
 pub keep-spec : {M : Type 1} → statement M
 keep-spec =
     tie.close
-    (tie.spec
-    judge-requires
-    good-pairs-requires
-    len-requires
-    len-requires-2
-    returns
-    renumbering-requires
-    returns-2)
+    (tie.spec (search needs) (search needs) (search needs) (search needs) returns (search needs) returns-2)

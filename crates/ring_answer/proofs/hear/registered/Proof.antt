@@ -11,15 +11,6 @@ use Rattle.ring_answer.proofs.hear.registered.Tie as tie
 enum-told : tie.Need-enum-told
 enum-told c = search needs
 
-keeping-requires : tie.Need-keeping-requires
-keeping-requires c κs = search needs
-
-enum-known-step : tie.Need-enum-known-step
-enum-known-step c = search needs
-
-keeping-requires-2 : tie.Need-keeping-requires-2
-keeping-requires-2 c κs = search needs
-
 returns : tie.Need-returns
 unfolding statusAfter statusOf
 returns c =
@@ -37,4 +28,4 @@ returns-2 c =
 pub registered-spec : {M : Type 1} → statement M
 registered-spec =
     tie.close
-    (tie.spec enum-told keeping-requires enum-known-step keeping-requires-2 returns returns-2)
+    (tie.spec enum-told (search needs) (search needs) (search needs) returns returns-2)

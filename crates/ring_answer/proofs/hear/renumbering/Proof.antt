@@ -15,30 +15,6 @@ use borrow.Author.Needs.{needs}
 use Rattle.ring_answer.proofs.hear.renumbering.Statement.{statement}
 use Rattle.ring_answer.proofs.hear.renumbering.Tie as tie
 
-mul-entry : tie.Need-mul-entry
-mul-entry c = search needs
-
-array-copy-out-entry : tie.Need-array-copy-out-entry
-array-copy-out-entry c = search needs
-
-absent-requires : tie.Need-absent-requires
-absent-requires c κs = search needs
-
-mul-others : tie.Need-mul-others
-mul-others c = search needs
-
-array-set-from-others : tie.Need-array-set-from-others
-array-set-from-others c = search needs
-
-place-requires : tie.Need-place-requires
-place-requires c κs = search needs
-
-tries-requires : tie.Need-tries-requires
-tries-requires c κs = search needs
-
-renumber-from-requires : tie.Need-renumber-from-requires
-renumber-from-requires c κs = search needs
-
 returns : tie.Need-returns
 returns c =
     let at-tries = c .before in
@@ -55,13 +31,5 @@ returns c =
 pub renumbering-spec : {M : Type 1} → statement M
 renumbering-spec =
     tie.close
-    (tie.spec
-    mul-entry
-    array-copy-out-entry
-    absent-requires
-    mul-others
-    array-set-from-others
-    place-requires
-    tries-requires
-    renumber-from-requires
-    returns)
+    (tie.spec (search needs) (search needs) (search needs) (search needs) (search needs) (search needs) (search needs)
+    (search needs) returns)

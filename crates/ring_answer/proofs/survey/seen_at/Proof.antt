@@ -8,9 +8,6 @@ use Rattle.row_entry.specs.View.{rowOf}
 use Rattle.ring_answer.proofs.survey.seen_at.Statement.{statement}
 use Rattle.ring_answer.proofs.survey.seen_at.Tie as tie
 
-absent-requires : tie.Need-absent-requires
-absent-requires c κs = search needs
-
 returns : tie.Need-returns
 returns c = c .absent .ensures ∙ sym (ap (λ (b : Bool). cond b noRow (rowOf (c .before .before .args .entry))) (eq-eqb _ _ (c .before .if1 .taken)))
 
@@ -18,4 +15,6 @@ returns-2 : tie.Need-returns-2
 returns-2 c = sym (ap (λ (b : Bool). cond b noRow (rowOf (c .before .args .entry))) (ne-eqb _ _ (c .if1 .left)))
 
 pub seen-at-spec : {M : Type 1} → statement M
-seen-at-spec = tie.close (tie.spec absent-requires returns returns-2)
+seen-at-spec =
+    tie.close
+    (tie.spec (search needs) returns returns-2)

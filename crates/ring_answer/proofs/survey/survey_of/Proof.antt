@@ -26,9 +26,6 @@ Inv-loop count seat address announced entries n claims₀ marks₀ i₀ claims m
 abbrev μ-loop : tie.MeasureT-loop
 μ-loop count seat address announced entries n claims₀ marks₀ i₀ claims marks i = n - i
 
-clamp-requires : tie.Need-clamp-requires Inv-loop μ-loop
-clamp-requires c κs = search needs
-
 loop-holds : tie.Need-loop-holds Inv-loop μ-loop
 loop-holds c = (omega arith, search needs, refl, refl, refl)
 
@@ -42,26 +39,11 @@ array-copy-out-seen-at c =
     let at-clamp = c .before .before in
     omega (arith, at-clamp .clamp .ensures, c .loop-test .taken)
 
-seen-at-requires : tie.Need-seen-at-requires Inv-loop μ-loop
-seen-at-requires c κs = search needs
-
-with-requires : tie.Need-with-requires Inv-loop μ-loop
-with-requires c κs = search needs
-
-pairs-requires : tie.Need-pairs-requires Inv-loop μ-loop
-pairs-requires c κs = search needs
-
-mark-held-requires : tie.Need-mark-held-requires Inv-loop μ-loop
-mark-held-requires c κs = search needs
-
 add-i : tie.Need-add-i Inv-loop μ-loop
 add-i c =
     let at-loop-test = c .before .before .before .before .before .before in
     let at-clamp = at-loop-test .before .before in
     omega (arith, at-clamp .clamp .ensures, at-loop-test .loop-test .taken)
-
-loop-less : tie.Need-loop-less Inv-loop μ-loop
-loop-less c = search needs
 
 loop-again : tie.Need-loop-again Inv-loop μ-loop
 loop-again c =
@@ -101,18 +83,5 @@ returns c =
 pub survey-of-spec : {M : Type 1} → statement M
 survey-of-spec =
     tie.close
-    (tie.spec
-    Inv-loop
-    μ-loop
-    clamp-requires
-    loop-holds
-    mul-seen-at
-    array-copy-out-seen-at
-    seen-at-requires
-    with-requires
-    pairs-requires
-    mark-held-requires
-    add-i
-    loop-less
-    loop-again
-    returns)
+    (tie.spec Inv-loop μ-loop (search needs) loop-holds mul-seen-at array-copy-out-seen-at (search needs) (search needs)
+    (search needs) (search needs) add-i (search needs) loop-again returns)

@@ -19,9 +19,6 @@ Inv-loop count change n next₀ i₀ next i = (i ≤ n) × (length next ≡ maxU
 abbrev μ-loop : tie.MeasureT-loop
 μ-loop count change n next₀ i₀ next i = n - i
 
-clamp-requires : tie.Need-clamp-requires Inv-loop μ-loop
-clamp-requires c κs = search needs
-
 loop-holds : tie.Need-loop-holds Inv-loop μ-loop
 unfolding mapFrom
 loop-holds c = (omega arith, search needs, refl)
@@ -35,9 +32,6 @@ array-copy-out-entry : tie.Need-array-copy-out-entry Inv-loop μ-loop
 array-copy-out-entry c =
     let at-clamp = c .before .before in
     omega (arith, at-clamp .clamp .ensures, c .loop-test .taken)
-
-changed-requires : tie.Need-changed-requires Inv-loop μ-loop
-changed-requires c κs = search needs
 
 mul-next : tie.Need-mul-next Inv-loop μ-loop
 mul-next c =
@@ -55,9 +49,6 @@ add-i c =
     let at-loop-test = c .before .before in
     let at-clamp = at-loop-test .before .before in
     omega (arith, at-clamp .clamp .ensures, at-loop-test .loop-test .taken)
-
-loop-less : tie.Need-loop-less Inv-loop μ-loop
-loop-less c = search needs
 
 loop-again : tie.Need-loop-again Inv-loop μ-loop
 loop-again c =
@@ -77,17 +68,5 @@ returns c =
 pub all-changed-spec : {M : Type 1} → statement M
 all-changed-spec =
     tie.close
-    (tie.spec
-    Inv-loop
-    μ-loop
-    clamp-requires
-    loop-holds
-    mul-entry
-    array-copy-out-entry
-    changed-requires
-    mul-next
-    array-set-from-next
-    add-i
-    loop-less
-    loop-again
-    returns)
+    (tie.spec Inv-loop μ-loop (search needs) loop-holds mul-entry array-copy-out-entry (search needs) mul-next
+    array-set-from-next add-i (search needs) loop-again returns)

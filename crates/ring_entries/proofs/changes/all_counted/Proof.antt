@@ -8,24 +8,6 @@ use borrow.Author.Needs.{needs}
 use Rattle.ring_entries.proofs.changes.all_counted.Statement.{statement}
 use Rattle.ring_entries.proofs.changes.all_counted.Tie as tie
 
-all-changed-requires : tie.Need-all-changed-requires
-all-changed-requires c κs = search needs
-
-mul-strike : tie.Need-mul-strike
-mul-strike c = search needs
-
-array-copy-out-strike : tie.Need-array-copy-out-strike
-array-copy-out-strike c = search needs
-
-strike-requires : tie.Need-strike-requires
-strike-requires c κs = search needs
-
-mul-next : tie.Need-mul-next
-mul-next c = search needs
-
-array-set-from-next : tie.Need-array-set-from-next
-array-set-from-next c = search needs
-
 returns : tie.Need-returns
 returns c =
     let at-all-changed = c .before .before in
@@ -38,11 +20,4 @@ returns c =
 pub all-counted-spec : {M : Type 1} → statement M
 all-counted-spec =
     tie.close
-    (tie.spec
-    all-changed-requires
-    mul-strike
-    array-copy-out-strike
-    strike-requires
-    mul-next
-    array-set-from-next
-    returns)
+    (tie.spec (search needs) (search needs) (search needs) (search needs) (search needs) (search needs) returns)

@@ -5,9 +5,6 @@ use borrow.Author.Needs.{needs}
 use Rattle.ring_entries.proofs.changes.changed.Statement.{statement}
 use Rattle.ring_entries.proofs.changes.changed.Tie as tie
 
-enum-told : tie.Need-enum-told
-enum-told c = search needs
-
 asked-requires : tie.Need-asked-requires
 asked-requires c κs = search needs
 
@@ -52,15 +49,5 @@ returns-4 c =
 pub changed-spec : {M : Type 1} → statement M
 changed-spec =
     tie.close
-    (tie.spec
-    enum-told
-    asked-requires
-    enum-told-2
-    emptied-requires
-    enum-known-change
-    counts-for-requires
-    strike-requires
-    returns
-    returns-2
-    returns-3
-    returns-4)
+    (tie.spec (search needs) asked-requires enum-told-2 emptied-requires enum-known-change counts-for-requires strike-requires
+    returns returns-2 returns-3 returns-4)

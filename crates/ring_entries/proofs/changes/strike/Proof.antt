@@ -6,12 +6,6 @@ use mathlib.Core.Path.{_∙_, ap}
 use Rattle.ring_entries.proofs.changes.strike.Statement.{statement}
 use Rattle.ring_entries.proofs.changes.strike.Tie as tie
 
-counted-requires : tie.Need-counted-requires
-counted-requires c κs = search needs
-
-ignored-requires : tie.Need-ignored-requires
-ignored-requires c κs = search needs
-
 returns : tie.Need-returns
 unfolding struck
 returns c =
@@ -27,4 +21,6 @@ returns-2 c =
     simp (c .if1 .left) (at-counted .counted .ensures)
 
 pub strike-spec : {M : Type 1} → statement M
-strike-spec = tie.close (tie.spec counted-requires ignored-requires returns returns-2)
+strike-spec =
+    tie.close
+    (tie.spec (search needs) (search needs) returns returns-2)

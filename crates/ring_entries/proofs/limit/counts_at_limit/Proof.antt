@@ -6,15 +6,6 @@ use borrow.Author.Needs.{needs}
 use Rattle.ring_entries.proofs.limit.counts_at_limit.Statement.{statement}
 use Rattle.ring_entries.proofs.limit.counts_at_limit.Tie as tie
 
-counts-for-requires : tie.Need-counts-for-requires
-counts-for-requires c κs = search needs
-
-counted-requires : tie.Need-counted-requires
-counted-requires c κs = search needs
-
-at-limit-requires : tie.Need-at-limit-requires
-at-limit-requires c κs = search needs
-
 returns : tie.Need-returns
 unfolding countsAtLimit
 returns c =
@@ -31,4 +22,5 @@ returns-2 c =
 
 pub counts-at-limit-spec : {M : Type 1} → statement M
 counts-at-limit-spec =
-    tie.close (tie.spec counts-for-requires counted-requires at-limit-requires returns returns-2)
+    tie.close
+    (tie.spec (search needs) (search needs) (search needs) returns returns-2)

@@ -9,18 +9,6 @@ use borrow.Author.Needs.{needs}
 use Rattle.ring_entries.proofs.limit.reaches_limit.Statement.{statement}
 use Rattle.ring_entries.proofs.limit.reaches_limit.Tie as tie
 
-mul-entry : tie.Need-mul-entry
-mul-entry c = search needs
-
-array-copy-out-entry : tie.Need-array-copy-out-entry
-array-copy-out-entry c = search needs
-
-counted-requires : tie.Need-counted-requires
-counted-requires c κs = search needs
-
-at-limit-requires : tie.Need-at-limit-requires
-at-limit-requires c κs = search needs
-
 returns : tie.Need-returns
 returns c =
     let at-at-limit = c .before in
@@ -29,18 +17,6 @@ returns c =
     let full : length (start .args .t2) ≡ maxUnits = search (needs, start .good) in
     limit-own (start .args .count) (start .args .seat) (start .args .t2) full (start .pre) (verdictOf (start .args .verdict)) (start .args .address .0) _
     (ap atLimit (sym (at-counted .counted .ensures)) ∙ sym (at-at-limit .at-limit .ensures) ∙ c .if1 .taken)
-
-absent-requires : tie.Need-absent-requires
-absent-requires c κs = search needs
-
-mul-others : tie.Need-mul-others
-mul-others c = search needs
-
-array-set-from-others : tie.Need-array-set-from-others
-array-set-from-others c = search needs
-
-some-at-limit-requires : tie.Need-some-at-limit-requires
-some-at-limit-requires c κs = search needs
 
 returns-2 : tie.Need-returns-2
 returns-2 c =
@@ -56,14 +32,5 @@ returns-2 c =
 pub reaches-limit-spec : {M : Type 1} → statement M
 reaches-limit-spec =
     tie.close
-    (tie.spec
-    mul-entry
-    array-copy-out-entry
-    counted-requires
-    at-limit-requires
-    returns
-    absent-requires
-    mul-others
-    array-set-from-others
-    some-at-limit-requires
-    returns-2)
+    (tie.spec (search needs) (search needs) (search needs) (search needs) returns (search needs) (search needs) (search needs)
+    (search needs) returns-2)

@@ -21,9 +21,6 @@ Inv-loop count verdict address entries n seen₀ i₀ seen i =
 abbrev μ-loop : tie.MeasureT-loop
 μ-loop count verdict address entries n seen₀ i₀ seen i = n - i
 
-clamp-requires : tie.Need-clamp-requires Inv-loop μ-loop
-clamp-requires c κs = search needs
-
 loop-holds : tie.Need-loop-holds Inv-loop μ-loop
 loop-holds c = (omega arith, search needs, refl)
 
@@ -37,20 +34,11 @@ array-copy-out-counts-at-limit c =
     let at-clamp = c .before .before in
     omega (arith, at-clamp .clamp .ensures, c .loop-test .taken)
 
-counts-at-limit-requires : tie.Need-counts-at-limit-requires Inv-loop μ-loop
-counts-at-limit-requires c κs = search needs
-
-either-requires : tie.Need-either-requires Inv-loop μ-loop
-either-requires c κs = search needs
-
 add-i : tie.Need-add-i Inv-loop μ-loop
 add-i c =
     let at-loop-test = c .before .before .before in
     let at-clamp = at-loop-test .before .before in
     omega (arith, at-clamp .clamp .ensures, at-loop-test .loop-test .taken)
-
-loop-less : tie.Need-loop-less Inv-loop μ-loop
-loop-less c = search needs
 
 loop-again : tie.Need-loop-again Inv-loop μ-loop
 loop-again c =
@@ -78,16 +66,5 @@ returns c =
 pub some-at-limit-spec : {M : Type 1} → statement M
 some-at-limit-spec =
     tie.close
-    (tie.spec
-    Inv-loop
-    μ-loop
-    clamp-requires
-    loop-holds
-    mul-counts-at-limit
-    array-copy-out-counts-at-limit
-    counts-at-limit-requires
-    either-requires
-    add-i
-    loop-less
-    loop-again
-    returns)
+    (tie.spec Inv-loop μ-loop (search needs) loop-holds mul-counts-at-limit array-copy-out-counts-at-limit (search needs)
+    (search needs) add-i (search needs) loop-again returns)

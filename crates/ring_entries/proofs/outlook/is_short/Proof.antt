@@ -6,9 +6,6 @@ use mathlib.Core.Path.{_∙_, sym}
 use Rattle.ring_entries.proofs.outlook.is_short.Statement.{statement}
 use Rattle.ring_entries.proofs.outlook.is_short.Tie as tie
 
-is-silent-requires : tie.Need-is-silent-requires
-is-silent-requires c κs = search needs
-
 returns : tie.Need-returns
 unfolding isShort rowOf
 returns c =
@@ -23,4 +20,6 @@ returns-2 c =
     simp (sym (at-is-silent .is-silent .ensures) ∙ c .if1 .left)
 
 pub is-short-spec : {M : Type 1} → statement M
-is-short-spec = tie.close (tie.spec is-silent-requires returns returns-2)
+is-short-spec =
+    tie.close
+    (tie.spec (search needs) returns returns-2)

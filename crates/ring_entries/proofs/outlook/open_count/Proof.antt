@@ -19,9 +19,6 @@ Inv-loop count entries n open₀ i₀ «open» i = (i ≤ n) × («open» ≤ i)
 abbrev μ-loop : tie.MeasureT-loop
 μ-loop count entries n open₀ i₀ «open» i = n - i
 
-clamp-requires : tie.Need-clamp-requires Inv-loop μ-loop
-clamp-requires c κs = search needs
-
 loop-holds : tie.Need-loop-holds Inv-loop μ-loop
 loop-holds c = (omega arith, omega arith, search needs, omega arith)
 
@@ -48,9 +45,6 @@ add-i c =
     let at-clamp = at-loop-test .before .before in
     omega (arith, at-clamp .clamp .ensures, at-loop-test .loop-test .taken)
 
-loop-less : tie.Need-loop-less Inv-loop μ-loop
-loop-less c = search needs
-
 loop-again : tie.Need-loop-again Inv-loop μ-loop
 loop-again c =
     let at-loop-test = c .before .before in
@@ -69,15 +63,5 @@ returns c =
 pub open-count-spec : {M : Type 1} → statement M
 open-count-spec =
     tie.close
-    (tie.spec
-    Inv-loop
-    μ-loop
-    clamp-requires
-    loop-holds
-    mul-with-open
-    array-copy-out-with-open
-    with-open-requires
-    add-i
-    loop-less
-    loop-again
-    returns)
+    (tie.spec Inv-loop μ-loop (search needs) loop-holds mul-with-open array-copy-out-with-open with-open-requires add-i
+    (search needs) loop-again returns)

@@ -20,9 +20,6 @@ Inv-loop count entries n seen₀ i₀ seen i = (i ≤ n) × (length entries ≡ 
 abbrev μ-loop : tie.MeasureT-loop
 μ-loop count entries n seen₀ i₀ seen i = n - i
 
-clamp-requires : tie.Need-clamp-requires Inv-loop μ-loop
-clamp-requires c κs = search needs
-
 loop-holds : tie.Need-loop-holds Inv-loop μ-loop
 loop-holds c = (omega arith, search needs, refl, refl, refl)
 
@@ -36,17 +33,11 @@ array-copy-out-with c =
     let at-clamp = c .before .before in
     omega (arith, at-clamp .clamp .ensures, c .loop-test .taken)
 
-with-requires : tie.Need-with-requires Inv-loop μ-loop
-with-requires c κs = search needs
-
 add-i : tie.Need-add-i Inv-loop μ-loop
 add-i c =
     let at-loop-test = c .before .before in
     let at-clamp = at-loop-test .before .before in
     omega (arith, at-clamp .clamp .ensures, at-loop-test .loop-test .taken)
-
-loop-less : tie.Need-loop-less Inv-loop μ-loop
-loop-less c = search needs
 
 loop-again : tie.Need-loop-again Inv-loop μ-loop
 loop-again c =
@@ -66,15 +57,5 @@ returns c =
 pub outlook-of-spec : {M : Type 1} → statement M
 outlook-of-spec =
     tie.close
-    (tie.spec
-    Inv-loop
-    μ-loop
-    clamp-requires
-    loop-holds
-    mul-with
-    array-copy-out-with
-    with-requires
-    add-i
-    loop-less
-    loop-again
-    returns)
+    (tie.spec Inv-loop μ-loop (search needs) loop-holds mul-with array-copy-out-with (search needs) add-i (search needs)
+    loop-again returns)

@@ -6,12 +6,6 @@ use native.Mathlib.Omega.{arith}
 use Rattle.ring_entries.proofs.outlook.with_open.Statement.{statement}
 use Rattle.ring_entries.proofs.outlook.with_open.Tie as tie
 
-is-open-requires : tie.Need-is-open-requires
-is-open-requires c κs = search needs
-
-add-result : tie.Need-add-result
-add-result c = search needs
-
 returns : tie.Need-returns
 unfolding select
 returns c =
@@ -25,4 +19,6 @@ returns-2 c =
     simp (sym (at-is-open .is-open .ensures) ∙ c .if1 .left) (omega arith)
 
 pub with-open-spec : {M : Type 1} → statement M
-with-open-spec = tie.close (tie.spec is-open-requires add-result returns returns-2)
+with-open-spec =
+    tie.close
+    (tie.spec (search needs) (search needs) returns returns-2)

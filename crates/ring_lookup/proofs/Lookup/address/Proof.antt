@@ -8,9 +8,6 @@ use Rattle.ring_lookup.proofs.Lookup.address.Tie as tie
 enum-told : tie.Need-enum-told
 enum-told c = search needs
 
-enum-known-self : tie.Need-enum-known-self
-enum-known-self c = search needs
-
 returns : tie.Need-returns
 unfolding lookupAddress
 returns c = rw (c .enum-told .given .1) refl
@@ -22,4 +19,6 @@ returns-2 c =
     rw (at-self .self .given .1) refl
 
 pub address-spec : {M : Type 1} → statement M
-address-spec = tie.close (tie.spec enum-told enum-known-self returns returns-2)
+address-spec =
+    tie.close
+    (tie.spec enum-told (search needs) returns returns-2)

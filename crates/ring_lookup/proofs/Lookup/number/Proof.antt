@@ -5,9 +5,6 @@ use mathlib.Core.Path.{refl}
 use Rattle.ring_lookup.proofs.Lookup.number.Statement.{statement}
 use Rattle.ring_lookup.proofs.Lookup.number.Tie as tie
 
-enum-known-self : tie.Need-enum-known-self
-enum-known-self c = search needs
-
 enum-told : tie.Need-enum-told
 enum-told c = search needs
 
@@ -22,4 +19,6 @@ unfolding lookupNumber
 returns-2 c = rw (c .enum-told .given .1) refl
 
 pub number-spec : {M : Type 1} → statement M
-number-spec = tie.close (tie.spec enum-known-self enum-told returns returns-2)
+number-spec =
+    tie.close
+    (tie.spec (search needs) enum-told returns returns-2)

@@ -6,15 +6,6 @@ use Rattle.ring_tell.proofs.asks.is_asked.Tie as tie
 enum-told : tie.Need-enum-told
 enum-told c = search needs
 
-is-open-requires : tie.Need-is-open-requires
-is-open-requires c κs = search needs
-
-enum-told-2 : tie.Need-enum-told-2
-enum-told-2 c = search needs
-
-is-silent-requires : tie.Need-is-silent-requires
-is-silent-requires c κs = search needs
-
 returns : tie.Need-returns
 returns c =
     let at-enum-told = c .before in
@@ -28,4 +19,4 @@ returns-2 c =
 pub is-asked-spec : {M : Type 1} → statement M
 is-asked-spec =
     tie.close
-    (tie.spec enum-told is-open-requires enum-told-2 is-silent-requires returns returns-2)
+    (tie.spec enum-told (search needs) (search needs) (search needs) returns returns-2)

@@ -10,9 +10,6 @@ use native.Mathlib.Omega.{arith}
 use Rattle.ring_tell.proofs.asks.write_ask_if.Statement.{statement}
 use Rattle.ring_tell.proofs.asks.write_ask_if.Tie as tie
 
-is-asked-requires : tie.Need-is-asked-requires
-is-asked-requires c κs = search needs
-
 write-ask-requires : tie.Need-write-ask-requires
 write-ask-requires c κs =
     let at-if1 = c .before in
@@ -20,9 +17,6 @@ write-ask-requires c κs =
     let start = at-is-asked .before .before in
     let e = ap length (asks-one (start .args .pass) (whichOf (start .args .which)) (start .args .position .0) (rowOf (start .args .entry)) (sym (at-is-asked .is-asked .ensures) ∙ at-if1 .if1 .taken)) in
     omega arith
-
-same-length : tie.Need-same-length
-same-length c = search needs
 
 returns : tie.Need-returns
 returns c =
@@ -40,4 +34,5 @@ returns-2 c =
 
 pub write-ask-if-spec : {M : Type 1} → statement M
 write-ask-if-spec =
-    tie.close (tie.spec is-asked-requires write-ask-requires same-length returns returns-2)
+    tie.close
+    (tie.spec (search needs) write-ask-requires (search needs) returns returns-2)

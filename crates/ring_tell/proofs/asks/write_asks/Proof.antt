@@ -21,9 +21,6 @@ Inv-loop out₀ at pass which count entries n end₀ i₀ out end i = (i ≤ n) 
 abbrev μ-loop : tie.MeasureT-loop
 μ-loop out₀ at pass which count entries n end₀ i₀ out end i = n - i
 
-clamp-requires : tie.Need-clamp-requires Inv-loop μ-loop
-clamp-requires c κs = search needs
-
 loop-holds : tie.Need-loop-holds Inv-loop μ-loop
 loop-holds c = (omega arith, refl, search needs, owes-start _ _ _)
 
@@ -64,9 +61,6 @@ add-i c =
     let at-clamp = at-loop-test .before .before in
     omega (arith, at-clamp .clamp .ensures, at-loop-test .loop-test .taken)
 
-loop-less : tie.Need-loop-less Inv-loop μ-loop
-loop-less c = search needs
-
 loop-again : tie.Need-loop-again Inv-loop μ-loop
 loop-again c =
     let at-write-ask-if = c .before .before in
@@ -76,9 +70,6 @@ loop-again c =
     let start = at-clamp .before .before in
     let w = at-loop .loop .inv in
     (omega arith, at-write-ask-if .write-ask-if .kept .0 ∙ w .1, w .2, asks-turn (start .args .pass) (whichOf (start .args .which)) (at-loop .loop .i + 1) (rows-here (start .args .t6) (w .2) (start .args .count) (at-loop .loop .i) _ (omega (arith, at-clamp .clamp .ensures, at-loop-test .loop-test .taken))) (at-write-ask-if .write-ask-if .ensures) (w .3))
-
-same-length : tie.Need-same-length Inv-loop μ-loop
-same-length c = search needs
 
 returns : tie.Need-returns Inv-loop μ-loop
 returns c =
@@ -91,18 +82,5 @@ returns c =
 pub write-asks-spec : {M : Type 1} → statement M
 write-asks-spec =
     tie.close
-    (tie.spec
-    Inv-loop
-    μ-loop
-    clamp-requires
-    loop-holds
-    cast-before
-    add-position
-    mul-write-ask-if
-    array-copy-out-write-ask-if
-    write-ask-if-requires
-    add-i
-    loop-less
-    loop-again
-    same-length
-    returns)
+    (tie.spec Inv-loop μ-loop (search needs) loop-holds cast-before add-position mul-write-ask-if array-copy-out-write-ask-if
+    write-ask-if-requires add-i (search needs) loop-again (search needs) returns)

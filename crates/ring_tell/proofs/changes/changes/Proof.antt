@@ -5,23 +5,8 @@ use mathlib.Core.Path.{_∙_}
 use Rattle.ring_tell.proofs.changes.changes.Statement.{statement}
 use Rattle.ring_tell.proofs.changes.changes.Tie as tie
 
-pairs-requires : tie.Need-pairs-requires
-pairs-requires c κs = search needs
-
-pairs-requires-2 : tie.Need-pairs-requires-2
-pairs-requires-2 c κs = search needs
-
 enum-told : tie.Need-enum-told
 enum-told c = search needs
-
-missing-requires : tie.Need-missing-requires
-missing-requires c κs = search needs
-
-enum-told-2 : tie.Need-enum-told-2
-enum-told-2 c = search needs
-
-missing-requires-2 : tie.Need-missing-requires-2
-missing-requires-2 c κs = search needs
 
 returns : tie.Need-returns
 unfolding gained
@@ -42,12 +27,4 @@ returns-2 c =
 pub changes-spec : {M : Type 1} → statement M
 changes-spec =
     tie.close
-    (tie.spec
-    pairs-requires
-    pairs-requires-2
-    enum-told
-    missing-requires
-    enum-told-2
-    missing-requires-2
-    returns
-    returns-2)
+    (tie.spec (search needs) (search needs) enum-told (search needs) (search needs) (search needs) returns returns-2)

@@ -10,17 +10,11 @@ use mathlib.Core.Path.{ap}
 use Rattle.ring_tell.proofs.changes.write_change.Statement.{statement}
 use Rattle.ring_tell.proofs.changes.write_change.Tie as tie
 
-changes-requires : tie.Need-changes-requires
-changes-requires c κs = search needs
-
 write-delta-requires : tie.Need-write-delta-requires
 write-delta-requires c κs =
     let at-changes = c .before in
     let start = at-changes .before .before in
     (start .pre .0, rw (at-changes .changes .ensures) (start .pre .1))
-
-same-length : tie.Need-same-length
-same-length c = search needs
 
 returns : tie.Need-returns
 returns c =
@@ -30,4 +24,6 @@ returns c =
     wrote-along (ap (λ (ps : List Pair). encodeAll (start .args .pass) (tell (deltaOf (start .args .delta)) (start .args .size) ps)) (at-changes .changes .ensures)) (at-write-delta .write-delta .ensures)
 
 pub write-change-spec : {M : Type 1} → statement M
-write-change-spec = tie.close (tie.spec changes-requires write-delta-requires same-length returns)
+write-change-spec =
+    tie.close
+    (tie.spec (search needs) write-delta-requires (search needs) returns)

@@ -22,9 +22,6 @@ Inv-loop out₀ at pass delta size count before after n end₀ i₀ out end i = 
 abbrev μ-loop : tie.MeasureT-loop
 μ-loop out₀ at pass delta size count before after n end₀ i₀ out end i = n - i
 
-clamp-requires : tie.Need-clamp-requires Inv-loop μ-loop
-clamp-requires c κs = search needs
-
 loop-holds : tie.Need-loop-holds Inv-loop μ-loop
 loop-holds c = (omega arith, refl, search needs, search needs, owes-start _ _ _)
 
@@ -67,9 +64,6 @@ add-i c =
     let at-clamp = at-loop-test .before .before in
     omega (arith, at-clamp .clamp .ensures, at-loop-test .loop-test .taken)
 
-loop-less : tie.Need-loop-less Inv-loop μ-loop
-loop-less c = search needs
-
 loop-again : tie.Need-loop-again Inv-loop μ-loop
 loop-again c =
     let at-write-change = c .before .before in
@@ -79,9 +73,6 @@ loop-again c =
     let start = at-clamp .before .before in
     let w = at-loop .loop .inv in
     (omega arith, at-write-change .write-change .kept .0 ∙ w .1, w .2, w .3, rows-turn (start .args .pass) (deltaOf (start .args .delta)) (start .args .size) (changesOf (start .args .delta)) (rows-here (start .args .t7) (w .2) (start .args .count) (at-loop .loop .i) _ (omega (arith, at-clamp .clamp .ensures, at-loop-test .loop-test .taken))) (rows-here (start .args .t8) (w .3) (start .args .count) (at-loop .loop .i) _ (omega (arith, at-clamp .clamp .ensures, at-loop-test .loop-test .taken))) (at-write-change .write-change .ensures) (w .4))
-
-same-length : tie.Need-same-length Inv-loop μ-loop
-same-length c = search needs
 
 returns : tie.Need-returns Inv-loop μ-loop
 returns c =
@@ -94,18 +85,5 @@ returns c =
 pub write-changes-spec : {M : Type 1} → statement M
 write-changes-spec =
     tie.close
-    (tie.spec
-    Inv-loop
-    μ-loop
-    clamp-requires
-    loop-holds
-    mul-write-change
-    array-copy-out-write-change
-    mul-write-change-2
-    array-copy-out-write-change-2
-    write-change-requires
-    add-i
-    loop-less
-    loop-again
-    same-length
-    returns)
+    (tie.spec Inv-loop μ-loop (search needs) loop-holds mul-write-change array-copy-out-write-change mul-write-change-2
+    array-copy-out-write-change-2 write-change-requires add-i (search needs) loop-again (search needs) returns)

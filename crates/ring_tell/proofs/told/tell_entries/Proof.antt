@@ -17,9 +17,6 @@ losses s = tellRows INVALID lost (s .args .size) (rowsOf (s .args .count) (s .ar
 abbrev gains : tie.Start → List Order
 gains s = tellRows NEW gained (s .args .size) (rowsOf (s .args .count) (s .args .before)) (rowsOf (s .args .count) (s .args .after))
 
-is-ok-requires : tie.Need-is-ok-requires
-is-ok-requires c κs = search needs
-
 write-changes-requires : tie.Need-write-changes-requires
 unfolding rowsTold
 write-changes-requires c κs =
@@ -36,9 +33,6 @@ write-changes-requires-2 c κs =
     let at-is-ok = at-if1 .before in
     let start = at-is-ok .before .before in
     (start .pre .0, told-room-2 (start .args .pass) (stateOf (start .args .state .0)) (losses start) (gains start) refl (sym (at-is-ok .is-ok .ensures) ∙ at-if1 .if1 .taken) (at-first .write-changes .ensures) (start .pre .1))
-
-same-length : tie.Need-same-length
-same-length c = search needs
 
 returns : tie.Need-returns
 unfolding rowsTold
@@ -60,4 +54,4 @@ returns-2 c =
 pub tell-entries-spec : {M : Type 1} → statement M
 tell-entries-spec =
     tie.close
-    (tie.spec is-ok-requires write-changes-requires write-changes-requires-2 same-length returns returns-2)
+    (tie.spec (search needs) write-changes-requires write-changes-requires-2 (search needs) returns returns-2)

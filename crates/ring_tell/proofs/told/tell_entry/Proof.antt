@@ -17,9 +17,6 @@ losses s = tell INVALID (s .args .size) (lost (rowOf (s .args .before)) (rowOf (
 abbrev gains : tie.Start → List Order
 gains s = tell NEW (s .args .size) (gained (rowOf (s .args .before)) (rowOf (s .args .after)))
 
-is-ok-requires : tie.Need-is-ok-requires
-is-ok-requires c κs = search needs
-
 write-change-requires : tie.Need-write-change-requires
 unfolding rowTold
 write-change-requires c κs =
@@ -36,9 +33,6 @@ write-change-requires-2 c κs =
     let at-is-ok = at-if1 .before in
     let start = at-is-ok .before .before in
     (start .pre .0, told-room-2 (start .args .pass) (stateOf (start .args .state .0)) (losses start) (gains start) refl (sym (at-is-ok .is-ok .ensures) ∙ at-if1 .if1 .taken) (at-first .write-change .ensures) (start .pre .1))
-
-same-length : tie.Need-same-length
-same-length c = search needs
 
 returns : tie.Need-returns
 unfolding rowTold
@@ -60,4 +54,4 @@ returns-2 c =
 pub tell-entry-spec : {M : Type 1} → statement M
 tell-entry-spec =
     tie.close
-    (tie.spec is-ok-requires write-change-requires write-change-requires-2 same-length returns returns-2)
+    (tie.spec (search needs) write-change-requires write-change-requires-2 (search needs) returns returns-2)

@@ -23,9 +23,6 @@ write-renumbering-requires c κs =
     let a = start .args in
     start-second (a .pass) (rowTold (stateOf (a .state .0)) (a .size) (rowOf (a .before)) (rowOf (a .after))) (setOrder (a .position .0) (a .address .0) (renumberingOf (a .step))) refl (a .out .now) (start .pre .1) (at-tell-entry .tell-entry .ensures)
 
-same-length : tie.Need-same-length
-same-length c = search needs
-
 returns : tie.Need-returns
 returns c =
     let at-write-renumbering = c .before .before in
@@ -36,8 +33,4 @@ returns c =
 pub tell-reply-spec : {M : Type 1} → statement M
 tell-reply-spec =
     tie.close
-    (tie.spec
-    tell-entry-requires
-    write-renumbering-requires
-    same-length
-    returns)
+    (tie.spec tell-entry-requires write-renumbering-requires (search needs) returns)

@@ -10,9 +10,6 @@ use Rattle.ring_tell.proofs.told.write_renumbering.Tie as tie
 enum-told : tie.Need-enum-told
 enum-told c = search needs
 
-enum-known-step : tie.Need-enum-known-step
-enum-known-step c = search needs
-
 write-set-requires : tie.Need-write-set-requires
 unfolding pairOf
 write-set-requires c κs =
@@ -25,9 +22,6 @@ returns c =
     let start = c .before .before .before in
     set-none (start .args .pass) (start .args .position .0) (start .args .address .0) (start .args .out .now) (start .args .at) (ap renumberingOf (c .enum-told .given .1))
 
-same-length : tie.Need-same-length
-same-length c = search needs
-
 returns-2 : tie.Need-returns-2
 unfolding pairOf
 returns-2 c =
@@ -38,4 +32,5 @@ returns-2 c =
 
 pub write-renumbering-spec : {M : Type 1} → statement M
 write-renumbering-spec =
-    tie.close (tie.spec enum-told enum-known-step write-set-requires returns same-length returns-2)
+    tie.close
+    (tie.spec enum-told (search needs) write-set-requires returns (search needs) returns-2)

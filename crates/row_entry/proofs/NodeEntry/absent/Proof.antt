@@ -5,12 +5,11 @@ use borrow.Author.Needs.{needs}
 use Rattle.row_entry.proofs.NodeEntry.absent.Statement.{statement}
 use Rattle.row_entry.proofs.NodeEntry.absent.Tie as tie
 
-bare-requires : tie.Need-bare-requires
-bare-requires c κs = search needs
-
 returns : tie.Need-returns
 unfolding noRow statusOf
 returns c = c .bare .ensures
 
 pub absent-spec : {M : Type 1} → statement M
-absent-spec = tie.close (tie.spec bare-requires returns)
+absent-spec =
+    tie.close
+    (tie.spec (search needs) returns)

@@ -7,12 +7,6 @@ use mathlib.Core.Path.{_∙_, sym}
 use Rattle.row_entry.proofs.NodeEntry.asked.Statement.{statement}
 use Rattle.row_entry.proofs.NodeEntry.asked.Tie as tie
 
-is-silent-requires : tie.Need-is-silent-requires
-is-silent-requires c κs = search needs
-
-waiting-requires : tie.Need-waiting-requires
-waiting-requires c κs = search needs
-
 returns : tie.Need-returns
 unfolding asked withStatus rowOf
 returns c =
@@ -27,4 +21,6 @@ returns-2 c =
     simp (sym (at-is-silent .is-silent .ensures) ∙ c .if1 .left)
 
 pub asked-spec : {M : Type 1} → statement M
-asked-spec = tie.close (tie.spec is-silent-requires waiting-requires returns returns-2)
+asked-spec =
+    tie.close
+    (tie.spec (search needs) (search needs) returns returns-2)

@@ -7,15 +7,6 @@ use mathlib.Core.Path.{_∙_, ap, sym}
 use Rattle.row_entry.proofs.NodeEntry.bars.Statement.{statement}
 use Rattle.row_entry.proofs.NodeEntry.bars.Tie as tie
 
-is-ignored-requires : tie.Need-is-ignored-requires
-is-ignored-requires c κs = search needs
-
-same-requires : tie.Need-same-requires
-same-requires c κs = search needs
-
-in-range-requires : tie.Need-in-range-requires
-in-range-requires c κs = search needs
-
 returns : tie.Need-returns
 unfolding bars barsStatus
 returns c =
@@ -44,4 +35,4 @@ returns-3 c =
 pub bars-spec : {M : Type 1} → statement M
 bars-spec =
     tie.close
-    (tie.spec is-ignored-requires same-requires in-range-requires returns returns-2 returns-3)
+    (tie.spec (search needs) (search needs) (search needs) returns returns-2 returns-3)

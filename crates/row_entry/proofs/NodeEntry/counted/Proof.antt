@@ -8,9 +8,6 @@ use native.Mathlib.Omega.{arith}
 use Rattle.row_entry.proofs.NodeEntry.counted.Statement.{statement}
 use Rattle.row_entry.proofs.NodeEntry.counted.Tie as tie
 
-add-self : tie.Need-add-self
-add-self c = search needs
-
 returns : tie.Need-returns
 unfolding counted rowOf
 returns c =
@@ -24,4 +21,6 @@ returns-2 c =
     let e : min 3 (suc (start .args .self .bad)) ≡ 3 = omega arith in rw e refl
 
 pub counted-spec : {M : Type 1} → statement M
-counted-spec = tie.close (tie.spec add-self returns returns-2)
+counted-spec =
+    tie.close
+    (tie.spec (search needs) returns returns-2)

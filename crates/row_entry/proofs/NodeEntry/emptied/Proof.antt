@@ -7,17 +7,11 @@ use mathlib.Core.Path.{_∙_, sym}
 use Rattle.row_entry.proofs.NodeEntry.emptied.Statement.{statement}
 use Rattle.row_entry.proofs.NodeEntry.emptied.Tie as tie
 
-is-ignored-requires : tie.Need-is-ignored-requires
-is-ignored-requires c κs = search needs
-
 returns : tie.Need-returns
 unfolding emptied
 returns c =
     let at-is-ignored = c .before in
     simp (sym (at-is-ignored .is-ignored .ensures) ∙ c .if1 .taken)
-
-waiting-requires : tie.Need-waiting-requires
-waiting-requires c κs = search needs
 
 returns-2 : tie.Need-returns-2
 unfolding emptied withStatus rowOf
@@ -27,4 +21,6 @@ returns-2 c =
     simp (sym (at-is-ignored .is-ignored .ensures) ∙ at-if1 .if1 .left) (c .waiting .ensures)
 
 pub emptied-spec : {M : Type 1} → statement M
-emptied-spec = tie.close (tie.spec is-ignored-requires returns waiting-requires returns-2)
+emptied-spec =
+    tie.close
+    (tie.spec (search needs) returns (search needs) returns-2)

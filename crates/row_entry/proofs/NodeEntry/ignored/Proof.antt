@@ -6,12 +6,11 @@ use borrow.Author.Needs.{needs}
 use Rattle.row_entry.proofs.NodeEntry.ignored.Statement.{statement}
 use Rattle.row_entry.proofs.NodeEntry.ignored.Tie as tie
 
-bare-requires : tie.Need-bare-requires
-bare-requires c κs = search needs
-
 returns : tie.Need-returns
 unfolding ignored withStatus statusOf rowOf
 returns c = c .bare .ensures
 
 pub ignored-spec : {M : Type 1} → statement M
-ignored-spec = tie.close (tie.spec bare-requires returns)
+ignored-spec =
+    tie.close
+    (tie.spec (search needs) returns)

@@ -9,12 +9,6 @@ use mathlib.Core.Path.{_∙_, ap}
 use Rattle.row_entry.proofs.NodeEntry.keeping.Statement.{statement}
 use Rattle.row_entry.proofs.NodeEntry.keeping.Tie as tie
 
-len-requires : tie.Need-len-requires
-len-requires c κs = search needs
-
-cast-t11 : tie.Need-cast-t11
-cast-t11 c = search needs
-
 returns : tie.Need-returns
 unfolding rowOf pairsOf
 returns c =
@@ -22,4 +16,6 @@ returns c =
     let e = ap (λ (k : ℕ). pairsFrom k (start .args .pairs .blocks) (start .args .pairs .numbers)) (c .len .ensures) ∙ pairs-min _ (start .args .pairs .blocks) (start .args .pairs .numbers) (search needs) (search needs) (start .args .pairs .count) in (λ i. record { status = statusOf (start .args .status) (start .args .address .0) (e i) (start .args .place) (start .args .tries); bad = start .args .bad; silences = 0 })
 
 pub keeping-spec : {M : Type 1} → statement M
-keeping-spec = tie.close (tie.spec len-requires cast-t11 returns)
+keeping-spec =
+    tie.close
+    (tie.spec (search needs) (search needs) returns)

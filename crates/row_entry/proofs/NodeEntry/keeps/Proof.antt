@@ -6,12 +6,6 @@ use mathlib.Core.Path.{_∙_, ap, sym}
 use Rattle.row_entry.proofs.NodeEntry.keeps.Statement.{statement}
 use Rattle.row_entry.proofs.NodeEntry.keeps.Tie as tie
 
-is-listed-requires : tie.Need-is-listed-requires
-is-listed-requires c κs = search needs
-
-same-requires : tie.Need-same-requires
-same-requires c κs = search needs
-
 returns : tie.Need-returns
 unfolding keeps hasAddress
 returns c =
@@ -28,4 +22,6 @@ returns-2 c =
     sym (ap (hasAddress (start .args .address .0)) (kept-else (start .args .self) (sym (at-is-listed .is-listed .ensures) ∙ c .if1 .left)))
 
 pub keeps-spec : {M : Type 1} → statement M
-keeps-spec = tie.close (tie.spec is-listed-requires same-requires returns returns-2)
+keeps-spec =
+    tie.close
+    (tie.spec (search needs) (search needs) returns returns-2)

@@ -7,12 +7,6 @@ use mathlib.Core.Path.{_∙_, ap, sym}
 use Rattle.row_entry.proofs.NodeEntry.keeps_other.Statement.{statement}
 use Rattle.row_entry.proofs.NodeEntry.keeps_other.Tie as tie
 
-is-listed-requires : tie.Need-is-listed-requires
-is-listed-requires c κs = search needs
-
-same-requires : tie.Need-same-requires
-same-requires c κs = search needs
-
 returns : tie.Need-returns
 unfolding keepsOther hasOtherAddress
 returns c =
@@ -40,4 +34,5 @@ returns-3 c =
 
 pub keeps-other-spec : {M : Type 1} → statement M
 keeps-other-spec =
-    tie.close (tie.spec is-listed-requires same-requires returns returns-2 returns-3)
+    tie.close
+    (tie.spec (search needs) (search needs) returns returns-2 returns-3)

@@ -4,12 +4,11 @@ use borrow.Author.Needs.{needs}
 use Rattle.row_entry.proofs.NodeEntry.new.Statement.{statement}
 use Rattle.row_entry.proofs.NodeEntry.new.Tie as tie
 
-waiting-requires : tie.Need-waiting-requires
-waiting-requires c κs = search needs
-
 returns : tie.Need-returns
 unfolding newRow
 returns c = c .waiting .ensures
 
 pub new-spec : {M : Type 1} → statement M
-new-spec = tie.close (tie.spec waiting-requires returns)
+new-spec =
+    tie.close
+    (tie.spec (search needs) returns)

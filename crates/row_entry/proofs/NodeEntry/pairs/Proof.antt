@@ -6,12 +6,6 @@ use mathlib.Core.Path.{_∙_, sym}
 use Rattle.row_entry.proofs.NodeEntry.pairs.Statement.{statement}
 use Rattle.row_entry.proofs.NodeEntry.pairs.Tie as tie
 
-is-listed-requires : tie.Need-is-listed-requires
-is-listed-requires c κs = search needs
-
-cast-t5 : tie.Need-cast-t5
-cast-t5 c = search needs
-
 returns : tie.Need-returns
 unfolding pairsOf
 returns c =
@@ -19,9 +13,6 @@ returns c =
     let at-is-listed = at-if1 .before in
     let start = at-is-listed .before in
     sym (pairs-listed (start .args .self) (sym (at-is-listed .is-listed .ensures) ∙ at-if1 .if1 .taken))
-
-none-requires : tie.Need-none-requires
-none-requires c κs = search needs
 
 returns-2 : tie.Need-returns-2
 returns-2 c =
@@ -31,4 +22,6 @@ returns-2 c =
     c .none .ensures .0 ∙ sym (pairs-else (start .args .self) (sym (at-is-listed .is-listed .ensures) ∙ at-if1 .if1 .left))
 
 pub pairs-spec : {M : Type 1} → statement M
-pairs-spec = tie.close (tie.spec is-listed-requires cast-t5 returns none-requires returns-2)
+pairs-spec =
+    tie.close
+    (tie.spec (search needs) (search needs) returns (search needs) returns-2)

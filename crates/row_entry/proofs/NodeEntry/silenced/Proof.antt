@@ -8,20 +8,11 @@ use native.Mathlib.Omega.{arith}
 use Rattle.row_entry.proofs.NodeEntry.silenced.Statement.{statement}
 use Rattle.row_entry.proofs.NodeEntry.silenced.Tie as tie
 
-add-bare : tie.Need-add-bare
-add-bare c = search needs
-
-bare-requires : tie.Need-bare-requires
-bare-requires c κs = search needs
-
 returns : tie.Need-returns
 unfolding silenced statusOf rowOf
 returns c =
     let start = c .before .before .before .before in
     let e : min 20 (suc (start .args .self .silences)) ≡ start .args .self .silences + 1 = omega arith in rw e (c .bare .ensures)
-
-bare-requires-2 : tie.Need-bare-requires-2
-bare-requires-2 c κs = search needs
 
 returns-2 : tie.Need-returns-2
 unfolding silenced statusOf rowOf
@@ -30,4 +21,6 @@ returns-2 c =
     let e : min 20 (suc (start .args .self .silences)) ≡ 20 = omega arith in rw e (c .bare2 .ensures)
 
 pub silenced-spec : {M : Type 1} → statement M
-silenced-spec = tie.close (tie.spec add-bare bare-requires returns bare-requires-2 returns-2)
+silenced-spec =
+    tie.close
+    (tie.spec (search needs) (search needs) returns (search needs) returns-2)

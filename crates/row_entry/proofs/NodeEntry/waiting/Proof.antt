@@ -4,12 +4,11 @@ use borrow.Author.Needs.{needs}
 use Rattle.row_entry.proofs.NodeEntry.waiting.Statement.{statement}
 use Rattle.row_entry.proofs.NodeEntry.waiting.Tie as tie
 
-bare-requires : tie.Need-bare-requires
-bare-requires c κs = search needs
-
 returns : tie.Need-returns
 unfolding statusOf
 returns c = c .bare .ensures
 
 pub waiting-spec : {M : Type 1} → statement M
-waiting-spec = tie.close (tie.spec bare-requires returns)
+waiting-spec =
+    tie.close
+    (tie.spec (search needs) returns)

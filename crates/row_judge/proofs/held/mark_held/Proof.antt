@@ -21,9 +21,6 @@ Inv-loop marks₀ kept announced n i₀ marks i = (i ≤ n) × (length (announce
 abbrev μ-loop : tie.MeasureT-loop
 μ-loop marks₀ kept announced n i₀ marks i = n - i
 
-len-requires : tie.Need-len-requires Inv-loop μ-loop
-len-requires c κs = search needs
-
 loop-holds : tie.Need-loop-holds Inv-loop μ-loop
 unfolding orFrom
 loop-holds c = (omega arith, search needs, search needs, refl)
@@ -45,12 +42,6 @@ element-copy-out-holds-2 c =
     let at-len = at-loop-test .before .before in
     omega (arith, at-len .len .ensures, at-loop-test .loop-test .taken)
 
-holds-requires : tie.Need-holds-requires Inv-loop μ-loop
-holds-requires c κs = search needs
-
-either-requires : tie.Need-either-requires Inv-loop μ-loop
-either-requires c κs = search needs
-
 element-write-marks : tie.Need-element-write-marks Inv-loop μ-loop
 element-write-marks c =
     let at-loop-test = c .before .before .before .before .before in
@@ -62,9 +53,6 @@ add-i c =
     let at-loop-test = c .before .before .before .before .before in
     let at-len = at-loop-test .before .before in
     omega (arith, at-len .len .ensures, at-loop-test .loop-test .taken)
-
-loop-less : tie.Need-loop-less Inv-loop μ-loop
-loop-less c = search needs
 
 loop-again : tie.Need-loop-again Inv-loop μ-loop
 unfolding pairsOf
@@ -87,18 +75,5 @@ returns c =
 pub mark-held-spec : {M : Type 1} → statement M
 mark-held-spec =
     tie.close
-    (tie.spec
-    Inv-loop
-    μ-loop
-    len-requires
-    loop-holds
-    element-copy-out-either
-    element-copy-out-holds
-    element-copy-out-holds-2
-    holds-requires
-    either-requires
-    element-write-marks
-    add-i
-    loop-less
-    loop-again
-    returns)
+    (tie.spec Inv-loop μ-loop (search needs) loop-holds element-copy-out-either element-copy-out-holds element-copy-out-holds-2
+    (search needs) (search needs) element-write-marks add-i (search needs) loop-again returns)

@@ -22,42 +22,9 @@ Inv-loop announced good n kept₀ end₀ i₀ kept end i = (i ≤ n) × (end ≤
 abbrev μ-loop : tie.MeasureT-loop
 μ-loop announced good n kept₀ end₀ i₀ kept end i = n - i
 
-len-requires : tie.Need-len-requires Inv-loop μ-loop
-len-requires c κs = search needs
-
-none-requires : tie.Need-none-requires Inv-loop μ-loop
-none-requires c κs = search needs
-
 loop-holds : tie.Need-loop-holds Inv-loop μ-loop
 unfolding pairsFrom firsts
 loop-holds c = (omega arith, omega arith, search needs, search needs, search needs, search needs, search needs, refl)
-
-element-copy-out-kept : tie.Need-element-copy-out-kept Inv-loop μ-loop
-element-copy-out-kept c = search needs
-
-element-write-kept : tie.Need-element-write-kept Inv-loop μ-loop
-element-write-kept c = search needs
-
-element-copy-out-kept-2 : tie.Need-element-copy-out-kept-2 Inv-loop μ-loop
-element-copy-out-kept-2 c = search needs
-
-element-write-kept-2 : tie.Need-element-write-kept-2 Inv-loop μ-loop
-element-write-kept-2 c = search needs
-
-array-read-one-if : tie.Need-array-read-one-if Inv-loop μ-loop
-array-read-one-if c = search needs
-
-one-if-requires : tie.Need-one-if-requires Inv-loop μ-loop
-one-if-requires c κs = search needs
-
-add-end : tie.Need-add-end Inv-loop μ-loop
-add-end c = search needs
-
-add-i : tie.Need-add-i Inv-loop μ-loop
-add-i c = search needs
-
-loop-less : tie.Need-loop-less Inv-loop μ-loop
-loop-less c = search needs
 
 loop-again : tie.Need-loop-again Inv-loop μ-loop
 unfolding pairsOf
@@ -89,20 +56,5 @@ returns c =
 pub good-pairs-spec : {M : Type 1} → statement M
 good-pairs-spec =
     tie.close
-    (tie.spec
-    Inv-loop
-    μ-loop
-    len-requires
-    none-requires
-    loop-holds
-    element-copy-out-kept
-    element-write-kept
-    element-copy-out-kept-2
-    element-write-kept-2
-    array-read-one-if
-    one-if-requires
-    add-end
-    add-i
-    loop-less
-    loop-again
-    returns)
+    (tie.spec Inv-loop μ-loop (search needs) (search needs) loop-holds (search needs) (search needs) (search needs)
+    (search needs) (search needs) (search needs) (search needs) (search needs) (search needs) loop-again returns)

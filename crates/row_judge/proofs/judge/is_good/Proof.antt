@@ -26,12 +26,6 @@ returns-3 c =
     let at-if1 = at-if2 .before in
     simp (le-leb _ _ (at-if1 .if1 .left), le-leb _ _ (at-if2 .if2 .left), c .if3 .taken)
 
-first-requires : tie.Need-first-requires
-first-requires c κs = search needs
-
-holds-requires : tie.Need-holds-requires
-holds-requires c κs = search needs
-
 returns-4 : tie.Need-returns-4
 unfolding isGoodMarked pairOf
 returns-4 c =
@@ -57,4 +51,4 @@ returns-5 c =
 pub is-good-spec : {M : Type 1} → statement M
 is-good-spec =
     tie.close
-    (tie.spec returns returns-2 returns-3 first-requires holds-requires returns-4 returns-5)
+    (tie.spec returns returns-2 returns-3 (search needs) (search needs) returns-4 returns-5)

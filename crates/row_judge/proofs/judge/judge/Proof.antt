@@ -19,9 +19,6 @@ Inv-loop held announced n good₀ i₀ good i = (i ≤ n) × (length good ≡ ma
 abbrev μ-loop : tie.MeasureT-loop
 μ-loop held announced n good₀ i₀ good i = n - i
 
-len-requires : tie.Need-len-requires Inv-loop μ-loop
-len-requires c κs = search needs
-
 loop-holds : tie.Need-loop-holds Inv-loop μ-loop
 loop-holds c = (omega arith, search needs, search needs, search needs, search needs, refl)
 
@@ -41,9 +38,6 @@ element-copy-out-is-good-2 c =
     let at-len = at-loop-test .before .before in
     omega (arith, at-len .len .ensures, at-loop-test .loop-test .taken)
 
-is-good-requires : tie.Need-is-good-requires Inv-loop μ-loop
-is-good-requires c κs = search needs
-
 array-write-good : tie.Need-array-write-good Inv-loop μ-loop
 array-write-good c =
     let at-loop-test = c .before .before .before in
@@ -55,9 +49,6 @@ add-i c =
     let at-loop-test = c .before .before .before in
     let at-len = at-loop-test .before .before in
     omega (arith, at-len .len .ensures, at-loop-test .loop-test .taken)
-
-loop-less : tie.Need-loop-less Inv-loop μ-loop
-loop-less c = search needs
 
 loop-again : tie.Need-loop-again Inv-loop μ-loop
 unfolding pairsOf
@@ -79,17 +70,5 @@ returns c =
 pub judge-spec : {M : Type 1} → statement M
 judge-spec =
     tie.close
-    (tie.spec
-    Inv-loop
-    μ-loop
-    len-requires
-    loop-holds
-    array-read-is-good
-    element-copy-out-is-good
-    element-copy-out-is-good-2
-    is-good-requires
-    array-write-good
-    add-i
-    loop-less
-    loop-again
-    returns)
+    (tie.spec Inv-loop μ-loop (search needs) loop-holds array-read-is-good element-copy-out-is-good element-copy-out-is-good-2
+    (search needs) array-write-good add-i (search needs) loop-again returns)

@@ -9,24 +9,6 @@ use mathlib.Core.Path.{_∙_}
 use Rattle.row_renumber.proofs.free.free_number.Statement.{statement}
 use Rattle.row_renumber.proofs.free.free_number.Tie as tie
 
-slice-aggregate-mark-entries : tie.Need-slice-aggregate-mark-entries
-slice-aggregate-mark-entries c = search needs
-
-mark-entries-requires : tie.Need-mark-entries-requires
-mark-entries-requires c κs = search needs
-
-slice-aggregate-mark-pairs : tie.Need-slice-aggregate-mark-pairs
-slice-aggregate-mark-pairs c = search needs
-
-mark-pairs-requires : tie.Need-mark-pairs-requires
-mark-pairs-requires c κs = search needs
-
-slice-aggregate-least-unmarked : tie.Need-slice-aggregate-least-unmarked
-slice-aggregate-least-unmarked c = search needs
-
-least-unmarked-requires : tie.Need-least-unmarked-requires
-least-unmarked-requires c κs = search needs
-
 returns : tie.Need-returns
 returns c =
     let at-mark-pairs = c .before .before .before in
@@ -37,11 +19,4 @@ returns c =
 pub free-number-spec : {M : Type 1} → statement M
 free-number-spec =
     tie.close
-    (tie.spec
-    slice-aggregate-mark-entries
-    mark-entries-requires
-    slice-aggregate-mark-pairs
-    mark-pairs-requires
-    slice-aggregate-least-unmarked
-    least-unmarked-requires
-    returns)
+    (tie.spec (search needs) (search needs) (search needs) (search needs) (search needs) (search needs) returns)

@@ -21,9 +21,6 @@ Inv-loop table₀ count block entries n i₀ table i = (i ≤ n) × (length tabl
 abbrev μ-loop : tie.MeasureT-loop
 μ-loop table₀ count block entries n i₀ table i = n - i
 
-clamp-requires : tie.Need-clamp-requires Inv-loop μ-loop
-clamp-requires c κs = search needs
-
 loop-holds : tie.Need-loop-holds Inv-loop μ-loop
 loop-holds c =
     let start = c .before .before in
@@ -40,9 +37,6 @@ array-copy-out-pairs c =
     let at-clamp = at-loop-test .before .before in
     omega (arith, at-clamp .clamp .ensures, at-loop-test .loop-test .taken)
 
-pairs-requires : tie.Need-pairs-requires Inv-loop μ-loop
-pairs-requires c κs = search needs
-
 mark-pairs-requires : tie.Need-mark-pairs-requires Inv-loop μ-loop
 mark-pairs-requires c κs =
     let at-loop = c .before .before .before .before in
@@ -53,9 +47,6 @@ add-i c =
     let at-loop-test = c .before .before .before .before .before .before in
     let at-clamp = at-loop-test .before .before in
     omega (arith, at-clamp .clamp .ensures, at-loop-test .loop-test .taken)
-
-loop-less : tie.Need-loop-less Inv-loop μ-loop
-loop-less c = search needs
 
 loop-again : tie.Need-loop-again Inv-loop μ-loop
 loop-again c =
@@ -82,17 +73,5 @@ returns c =
 pub mark-entries-spec : {M : Type 1} → statement M
 mark-entries-spec =
     tie.close
-    (tie.spec
-    Inv-loop
-    μ-loop
-    clamp-requires
-    loop-holds
-    mul-pairs
-    array-copy-out-pairs
-    pairs-requires
-    mark-pairs-requires
-    add-i
-    loop-less
-    loop-again
-    same-length
-    returns)
+    (tie.spec Inv-loop μ-loop (search needs) loop-holds mul-pairs array-copy-out-pairs (search needs) mark-pairs-requires add-i
+    (search needs) loop-again same-length returns)

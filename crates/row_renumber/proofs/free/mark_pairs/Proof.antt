@@ -19,9 +19,6 @@ Inv-loop table₀ block pairs n i₀ table i = (i ≤ n) × (length table₀ ≡
 abbrev μ-loop : tie.MeasureT-loop
 μ-loop table₀ block pairs n i₀ table i = n - i
 
-len-requires : tie.Need-len-requires Inv-loop μ-loop
-len-requires c κs = search needs
-
 loop-holds : tie.Need-loop-holds Inv-loop μ-loop
 loop-holds c =
     let start = c .before .before in
@@ -31,9 +28,6 @@ element-copy-out-place-of : tie.Need-element-copy-out-place-of Inv-loop μ-loop
 element-copy-out-place-of c =
     let at-len = c .before .before in
     omega (arith, at-len .len .ensures, c .loop-test .taken)
-
-place-of-requires : tie.Need-place-of-requires Inv-loop μ-loop
-place-of-requires c κs = search needs
 
 slice-read-marked : tie.Need-slice-read-marked Inv-loop μ-loop
 slice-read-marked c =
@@ -47,9 +41,6 @@ element-copy-out-marked c =
     let at-len = at-loop-test .before .before in
     omega (arith, at-len .len .ensures, at-loop-test .loop-test .taken)
 
-marked-requires : tie.Need-marked-requires Inv-loop μ-loop
-marked-requires c κs = search needs
-
 slice-write-table : tie.Need-slice-write-table Inv-loop μ-loop
 slice-write-table c =
     let at-place-of = c .before .before .before in
@@ -61,9 +52,6 @@ add-i c =
     let at-loop-test = c .before .before .before .before .before in
     let at-len = at-loop-test .before .before in
     omega (arith, at-len .len .ensures, at-loop-test .loop-test .taken)
-
-loop-less : tie.Need-loop-less Inv-loop μ-loop
-loop-less c = search needs
 
 loop-again : tie.Need-loop-again Inv-loop μ-loop
 unfolding pairsOf
@@ -91,19 +79,5 @@ returns c =
 pub mark-pairs-spec : {M : Type 1} → statement M
 mark-pairs-spec =
     tie.close
-    (tie.spec
-    Inv-loop
-    μ-loop
-    len-requires
-    loop-holds
-    element-copy-out-place-of
-    place-of-requires
-    slice-read-marked
-    element-copy-out-marked
-    marked-requires
-    slice-write-table
-    add-i
-    loop-less
-    loop-again
-    same-length
-    returns)
+    (tie.spec Inv-loop μ-loop (search needs) loop-holds element-copy-out-place-of (search needs) slice-read-marked
+    element-copy-out-marked (search needs) slice-write-table add-i (search needs) loop-again same-length returns)

@@ -13,9 +13,6 @@ use mathlib.Core.Path.{_∙_, ap, subst, sym}
 use Rattle.row_renumber.proofs.renumber.attempt.Statement.{statement}
 use Rattle.row_renumber.proofs.renumber.attempt.Tie as tie
 
-passed-requires : tie.Need-passed-requires
-passed-requires c κs = search needs
-
 returns : tie.Need-returns
 unfolding attemptOf
 returns c =
@@ -23,9 +20,6 @@ returns c =
     let start = at-if1 .before in
     let free = freeNumber (collect pairsIn (rowsOf (start .args .count) (start .args .entries))) (pairsOf (start .args .announced)) in
     (c .passed .ensures .0 ∙ simp (at-if1 .if1 .taken), subst (λ (b : ℕ). NoneFree free b) (sym (c .passed .ensures .1)) (start .pre))
-
-passed-requires-2 : tie.Need-passed-requires-2
-passed-requires-2 c κs = search needs
 
 returns-2 : tie.Need-returns-2
 unfolding attemptOf
@@ -39,17 +33,8 @@ returns-2 c =
 free-for-requires : tie.Need-free-for-requires
 free-for-requires c κs = c .before .before .pre
 
-enum-known-free : tie.Need-enum-known-free
-enum-known-free c = search needs
-
-add-t14 : tie.Need-add-t14
-add-t14 c = search needs
-
 enum-told : tie.Need-enum-told
 enum-told c = search needs
-
-passed-requires-3 : tie.Need-passed-requires-3
-passed-requires-3 c κs = search needs
 
 returns-3 : tie.Need-returns-3
 unfolding pairOf
@@ -77,15 +62,5 @@ returns-4 c =
 pub attempt-spec : {M : Type 1} → statement M
 attempt-spec =
     tie.close
-    (tie.spec
-    passed-requires
-    returns
-    passed-requires-2
-    returns-2
-    free-for-requires
-    enum-known-free
-    add-t14
-    enum-told
-    passed-requires-3
-    returns-3
-    returns-4)
+    (tie.spec (search needs) returns (search needs) returns-2 free-for-requires (search needs) (search needs) enum-told
+    (search needs) returns-3 returns-4)

@@ -17,11 +17,10 @@ returns c =
     let e : start .args .full ≡ start .args .block = c .if1 .taken in
     sym (ap free (sym e) ∙ start .pre (omega arith))
 
-free-number-requires : tie.Need-free-number-requires
-free-number-requires c κs = search needs
-
 returns-2 : tie.Need-returns-2
 returns-2 c = c .free-number .ensures
 
 pub free-for-spec : {M : Type 1} → statement M
-free-for-spec = tie.close (tie.spec returns free-number-requires returns-2)
+free-for-spec =
+    tie.close
+    (tie.spec returns (search needs) returns-2)

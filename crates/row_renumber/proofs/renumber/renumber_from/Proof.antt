@@ -23,9 +23,6 @@ Inv-loop count entries place tries announced good n full₀ left₀ i₀ full le
 abbrev μ-loop : tie.MeasureT-loop
 μ-loop count entries place tries announced good n full₀ left₀ i₀ full left i = n - i
 
-len-requires : tie.Need-len-requires Inv-loop μ-loop
-len-requires c κs = search needs
-
 loop-holds : tie.Need-loop-holds Inv-loop μ-loop
 unfolding renumber
 loop-holds c = (search needs, search needs, search needs, refl, λ h. absurd (omega arith))
@@ -54,9 +51,6 @@ element-copy-out-attempt-2 c =
 attempt-requires : tie.Need-attempt-requires Inv-loop μ-loop
 attempt-requires c κs = c .before .before .before .loop .inv .4
 
-is-offer-requires : tie.Need-is-offer-requires Inv-loop μ-loop
-is-offer-requires c κs = search needs
-
 returns : tie.Need-returns Inv-loop μ-loop
 unfolding pairsOf
 returns c =
@@ -77,9 +71,6 @@ add-i c =
     let at-loop-test = c .before .before .before .before .before in
     let at-len = at-loop-test .before .before in
     omega (arith, at-len .len .ensures, at-loop-test .loop-test .taken)
-
-loop-less : tie.Need-loop-less Inv-loop μ-loop
-loop-less c = search needs
 
 loop-again : tie.Need-loop-again Inv-loop μ-loop
 unfolding pairsOf
@@ -110,19 +101,5 @@ returns-2 c =
 pub renumber-from-spec : {M : Type 1} → statement M
 renumber-from-spec =
     tie.close
-    (tie.spec
-    Inv-loop
-    μ-loop
-    len-requires
-    loop-holds
-    array-read-attempt
-    cast-attempt
-    element-copy-out-attempt
-    element-copy-out-attempt-2
-    attempt-requires
-    is-offer-requires
-    returns
-    add-i
-    loop-less
-    loop-again
-    returns-2)
+    (tie.spec Inv-loop μ-loop (search needs) loop-holds array-read-attempt cast-attempt element-copy-out-attempt
+    element-copy-out-attempt-2 attempt-requires (search needs) returns add-i (search needs) loop-again returns-2)

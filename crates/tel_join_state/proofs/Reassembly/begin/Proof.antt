@@ -8,27 +8,12 @@ use Rattle.tel_join_state.proofs.Joining.{drops}
 use Rattle.tel_join_state.proofs.Reassembly.begin.Statement.{statement}
 use Rattle.tel_join_state.proofs.Reassembly.begin.Tie as tie
 
-dropped-requires : tie.Need-dropped-requires
-dropped-requires c κs = search needs
-
 returns : tie.Need-returns
 unfolding begins
 returns c =
     let at-if1 = c .before in
     let start = at-if1 .before .before .before in
     drops (start .args .buffer .now) (simp (ne-eqb _ _ (at-if1 .if1 .taken))) (c .dropped .ensures)
-
-store-requires : tie.Need-store-requires
-store-requires c κs = search needs
-
-cast-opened : tie.Need-cast-opened
-cast-opened c = search needs
-
-opened-requires : tie.Need-opened-requires
-opened-requires c κs = search needs
-
-same-length : tie.Need-same-length
-same-length c = search needs
 
 returns-2 : tie.Need-returns-2
 unfolding begins handedBack
@@ -40,11 +25,4 @@ returns-2 c =
 pub begin-spec : {M : Type 1} → statement M
 begin-spec =
     tie.close
-    (tie.spec
-    dropped-requires
-    returns
-    store-requires
-    cast-opened
-    opened-requires
-    same-length
-    returns-2)
+    (tie.spec (search needs) returns (search needs) (search needs) (search needs) (search needs) returns-2)

@@ -5,14 +5,10 @@ use Rattle.tel_join_state.specs.Answers.{joiningOf}
 use Rattle.tel_join_state.proofs.Reassembly.dropped.Statement.{statement}
 use Rattle.tel_join_state.proofs.Reassembly.dropped.Tie as tie
 
-fresh-requires : tie.Need-fresh-requires
-fresh-requires c κs = search needs
-
-refused-requires : tie.Need-refused-requires
-refused-requires c κs = search needs
-
 returns : tie.Need-returns
 returns c = let r = c .refused .ensures in (r .0, ap joiningOf (r .1) ∙ c .before .fresh .ensures .0, r .1 ∙ c .before .fresh .ensures .1)
 
 pub dropped-spec : {M : Type 1} → statement M
-dropped-spec = tie.close (tie.spec fresh-requires refused-requires returns)
+dropped-spec =
+    tie.close
+    (tie.spec (search needs) (search needs) returns)

@@ -9,18 +9,12 @@ use Rattle.tel_join_state.proofs.Joining.{drops, completes, stays-open}
 use Rattle.tel_join_state.proofs.Reassembly.go_on.Statement.{statement}
 use Rattle.tel_join_state.proofs.Reassembly.go_on.Tie as tie
 
-dropped-requires : tie.Need-dropped-requires
-dropped-requires c κs = search needs
-
 returns : tie.Need-returns
 unfolding joiningOf continues
 returns c =
     let at-if1 = c .before in
     let start = at-if1 .before .before .before .before in
     drops (start .args .buffer .now) (simp (eq-eqb _ _ (at-if1 .if1 .taken))) (c .dropped .ensures)
-
-dropped-requires-2 : tie.Need-dropped-requires-2
-dropped-requires-2 c κs = search needs
 
 returns-2 : tie.Need-returns-2
 unfolding joiningOf continues
@@ -29,9 +23,6 @@ returns-2 c =
     let at-if1 = at-if2 .before .before in
     let start = at-if1 .before .before .before .before in
     drops (start .args .buffer .now) (simp (ne-eqb _ _ (at-if1 .if1 .left), ne-eqb _ _ (at-if2 .if2 .taken))) (c .dropped2 .ensures)
-
-dropped-requires-3 : tie.Need-dropped-requires-3
-dropped-requires-3 c κs = search needs
 
 returns-3 : tie.Need-returns-3
 unfolding joiningOf continues
@@ -42,15 +33,6 @@ returns-3 c =
     let start = at-if1 .before .before .before .before in
     drops (start .args .buffer .now) (simp (ne-eqb _ _ (at-if1 .if1 .left), eq-eqb _ _ (at-if2 .if2 .left), ne-eqb _ _ (at-if3 .if3 .taken))) (c .dropped3 .ensures)
 
-cast-at : tie.Need-cast-at
-cast-at c = search needs
-
-add-total : tie.Need-add-total
-add-total c = search needs
-
-dropped-requires-4 : tie.Need-dropped-requires-4
-dropped-requires-4 c κs = search needs
-
 returns-4 : tie.Need-returns-4
 unfolding joiningOf continues
 returns-4 c =
@@ -60,15 +42,6 @@ returns-4 c =
     let at-if1 = at-if2 .before .before in
     let start = at-if1 .before .before .before .before in
     drops (start .args .buffer .now) (simp (ne-eqb _ _ (at-if1 .if1 .left), eq-eqb _ _ (at-if2 .if2 .left), eq-eqb _ _ (at-if3 .if3 .left), lt-leb _ _ (at-if4 .if4 .taken))) (c .dropped4 .ensures)
-
-store-requires : tie.Need-store-requires
-store-requires c κs = search needs
-
-fresh-requires : tie.Need-fresh-requires
-fresh-requires c κs = search needs
-
-same-length : tie.Need-same-length
-same-length c = search needs
 
 returns-5 : tie.Need-returns-5
 returns-5 c =
@@ -81,18 +54,6 @@ returns-5 c =
     let start = at-if1 .before .before .before .before in
     let a = start .args in
     completes (a .self) (a .msg-id) (a .counter) (a .part .now) (a .buffer .now) (at-if1 .if1 .left) (at-if2 .if2 .left) (at-if3 .if3 .left) (at-if4 .if4 .left) (at-if5 .if5 .taken) (c .fresh .ensures) (at-store .store .ensures)
-
-add-opened : tie.Need-add-opened
-add-opened c = search needs
-
-cast-opened : tie.Need-cast-opened
-cast-opened c = search needs
-
-opened-requires : tie.Need-opened-requires
-opened-requires c κs = search needs
-
-same-length-2 : tie.Need-same-length-2
-same-length-2 c = search needs
 
 returns-6 : tie.Need-returns-6
 returns-6 c =
@@ -109,23 +70,6 @@ returns-6 c =
 pub go-on-spec : {M : Type 1} → statement M
 go-on-spec =
     tie.close
-    (tie.spec
-    dropped-requires
-    returns
-    dropped-requires-2
-    returns-2
-    dropped-requires-3
-    returns-3
-    cast-at
-    add-total
-    dropped-requires-4
-    returns-4
-    store-requires
-    fresh-requires
-    same-length
-    returns-5
-    add-opened
-    cast-opened
-    opened-requires
-    same-length-2
-    returns-6)
+    (tie.spec (search needs) returns (search needs) returns-2 (search needs) returns-3 (search needs) (search needs)
+    (search needs) returns-4 (search needs) (search needs) (search needs) returns-5 (search needs) (search needs) (search needs)
+    (search needs) returns-6)

@@ -21,29 +21,8 @@ returns : tie.Need-returns Inv-loop μ-loop
 unfolding bytesAt
 returns c = (sym (behind-wrong _ _ (c .if1 .taken)), stored-none _ _ _ (c .if1 .taken))
 
-word-start-requires : tie.Need-word-start-requires Inv-loop μ-loop
-word-start-requires c κs = search needs
-
 loop-holds : tie.Need-loop-holds Inv-loop μ-loop
 loop-holds c = left-start _ _ (c .word-start .ensures .0) _
-
-word-end-requires : tie.Need-word-end-requires Inv-loop μ-loop
-word-end-requires c κs = search needs
-
-sub-group-reason : tie.Need-sub-group-reason Inv-loop μ-loop
-sub-group-reason c = search needs
-
-part-group-reason-start : tie.Need-part-group-reason-start Inv-loop μ-loop
-part-group-reason-start c = search needs
-
-part-group-reason-end : tie.Need-part-group-reason-end Inv-loop μ-loop
-part-group-reason-end c = search needs
-
-group-reason-requires : tie.Need-group-reason-requires Inv-loop μ-loop
-group-reason-requires c κs = search needs
-
-wrong-requires : tie.Need-wrong-requires Inv-loop μ-loop
-wrong-requires c κs = search needs
 
 same-length : tie.Need-same-length Inv-loop μ-loop
 same-length c = owes-length (c .before .before .before .before .before .before .loop .inv .owes)
@@ -59,21 +38,6 @@ returns-2 c =
     let start = at-if .before .before .before .before in
     let refused = left-refused (start .args .line .now) (start .args .self) (at-if .if1 .left) (at-word-start .word-start .ensures .0) (at-loop .loop .inv) (at-loop-test .loop-test .taken) (at-word-end .word-end .ensures .0) (at-reason .group-reason .ensures) (c .before .if2 .taken) in
     (c .wrong .ensures ∙ refused .0, refused .1)
-
-sub-store : tie.Need-sub-store Inv-loop μ-loop
-sub-store c = search needs
-
-part-store-start : tie.Need-part-store-start Inv-loop μ-loop
-part-store-start c = search needs
-
-part-store-end : tie.Need-part-store-end Inv-loop μ-loop
-part-store-end c = search needs
-
-store-requires : tie.Need-store-requires Inv-loop μ-loop
-store-requires c κs = search needs
-
-word-start-requires-2 : tie.Need-word-start-requires-2 Inv-loop μ-loop
-word-start-requires-2 c κs = search needs
 
 loop-less : tie.Need-loop-less Inv-loop μ-loop
 loop-less c =
@@ -117,28 +81,6 @@ returns-4 c =
 pub bytes-spec : {M : Type 1} → statement M
 bytes-spec =
     tie.close
-    (tie.spec
-    Inv-loop
-    μ-loop
-    returns
-    word-start-requires
-    loop-holds
-    word-end-requires
-    sub-group-reason
-    part-group-reason-start
-    part-group-reason-end
-    group-reason-requires
-    wrong-requires
-    same-length
-    returns-2
-    sub-store
-    part-store-start
-    part-store-end
-    store-requires
-    word-start-requires-2
-    loop-less
-    loop-again
-    same-length-2
-    returns-3
-    same-length-3
-    returns-4)
+    (tie.spec Inv-loop μ-loop returns (search needs) loop-holds (search needs) (search needs) (search needs) (search needs)
+    (search needs) (search needs) same-length returns-2 (search needs) (search needs) (search needs) (search needs)
+    (search needs) loop-less loop-again same-length-2 returns-3 same-length-3 returns-4)

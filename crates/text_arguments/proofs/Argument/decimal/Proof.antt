@@ -10,12 +10,6 @@ returns : tie.Need-returns
 unfolding decimalAt
 returns c = sym (behind-wrong _ _ (c .if1 .taken))
 
-word-start-requires : tie.Need-word-start-requires
-word-start-requires c κs = search needs
-
-wrong-requires : tie.Need-wrong-requires
-wrong-requires c κs = search needs
-
 returns-2 : tie.Need-returns-2
 unfolding decimalAt
 returns-2 c =
@@ -26,35 +20,8 @@ returns-2 c =
     let self = start .args .self in
     c .wrong .ensures ∙ sym (missing line self (at-if .if1 .left) (at-word-start .word-start .ensures .0) (c .before .if2 .taken) _)
 
-word-end-requires : tie.Need-word-end-requires
-word-end-requires c κs = search needs
-
-sub-decimal : tie.Need-sub-decimal
-sub-decimal c = search needs
-
-part-decimal-start : tie.Need-part-decimal-start
-part-decimal-start c = search needs
-
-part-decimal-end : tie.Need-part-decimal-end
-part-decimal-end c = search needs
-
-decimal-requires : tie.Need-decimal-requires
-decimal-requires c κs = search needs
-
 enum-told : tie.Need-enum-told
 enum-told c = search needs
-
-wrong-requires-2 : tie.Need-wrong-requires-2
-wrong-requires-2 c κs = search needs
-
-enum-told-2 : tie.Need-enum-told-2
-enum-told-2 c = search needs
-
-wrong-requires-3 : tie.Need-wrong-requires-3
-wrong-requires-3 c κs = search needs
-
-enum-known-value : tie.Need-enum-known-value
-enum-known-value c = search needs
 
 returns-3 : tie.Need-returns-3
 returns-3 c =
@@ -89,21 +56,5 @@ returns-5 c =
 pub decimal-spec : {M : Type 1} → statement M
 decimal-spec =
     tie.close
-    (tie.spec
-    returns
-    word-start-requires
-    wrong-requires
-    returns-2
-    word-end-requires
-    sub-decimal
-    part-decimal-start
-    part-decimal-end
-    decimal-requires
-    enum-told
-    wrong-requires-2
-    enum-told-2
-    wrong-requires-3
-    enum-known-value
-    returns-3
-    returns-4
-    returns-5)
+    (tie.spec returns (search needs) (search needs) returns-2 (search needs) (search needs) (search needs) (search needs)
+    (search needs) enum-told (search needs) (search needs) (search needs) (search needs) returns-3 returns-4 returns-5)

@@ -10,12 +10,6 @@ returns : tie.Need-returns
 unfolding endAt
 returns c = sym (behind-wrong _ _ (c .if1 .taken))
 
-word-start-requires : tie.Need-word-start-requires
-word-start-requires c κs = search needs
-
-wrong-requires : tie.Need-wrong-requires
-wrong-requires c κs = search needs
-
 returns-2 : tie.Need-returns-2
 returns-2 c =
     let at-word-start = c .before .before in
@@ -35,4 +29,6 @@ returns-3 c =
     end-right line self (at-if .if1 .left) (at-word-start .word-start .ensures .0) (c .if2 .left)
 
 pub end-spec : {M : Type 1} → statement M
-end-spec = tie.close (tie.spec returns word-start-requires wrong-requires returns-2 returns-3)
+end-spec =
+    tie.close
+    (tie.spec returns (search needs) (search needs) returns-2 returns-3)

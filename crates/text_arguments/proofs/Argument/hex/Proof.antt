@@ -11,12 +11,6 @@ returns : tie.Need-returns
 unfolding hexAt
 returns c = sym (behind-wrong _ _ (c .if1 .taken))
 
-word-start-requires : tie.Need-word-start-requires
-word-start-requires c κs = search needs
-
-wrong-requires : tie.Need-wrong-requires
-wrong-requires c κs = search needs
-
 returns-2 : tie.Need-returns-2
 unfolding hexAt
 returns-2 c =
@@ -26,24 +20,6 @@ returns-2 c =
     let line = start .args .line .now in
     let self = start .args .self in
     c .wrong .ensures ∙ sym (missing line self (at-if .if1 .left) (at-word-start .word-start .ensures .0) (c .before .if2 .taken) _)
-
-word-end-requires : tie.Need-word-end-requires
-word-end-requires c κs = search needs
-
-sub-word : tie.Need-sub-word
-sub-word c = search needs
-
-part-word-start : tie.Need-part-word-start
-part-word-start c = search needs
-
-part-word-end : tie.Need-part-word-end
-part-word-end c = search needs
-
-all-hex-requires : tie.Need-all-hex-requires
-all-hex-requires c κs = search needs
-
-wrong-requires-2 : tie.Need-wrong-requires-2
-wrong-requires-2 c κs = search needs
 
 returns-3 : tie.Need-returns-3
 returns-3 c =
@@ -55,9 +31,6 @@ returns-3 c =
     let self = start .args .self in
     c .wrong2 .ensures ∙ hex-none line self (at-if .if1 .left) (at-word-start .word-start .ensures .0) (at-word-end .before .if2 .left) (at-word-end .word-end .ensures .0) _ (sym (c .before .before .all-hex .ensures) ∙ not-true _ (c .before .if3 .taken))
 
-wrong-requires-3 : tie.Need-wrong-requires-3
-wrong-requires-3 c κs = search needs
-
 returns-4 : tie.Need-returns-4
 returns-4 c =
     let at-word-end = c .before .before .before .before .before in
@@ -67,12 +40,6 @@ returns-4 c =
     let line = start .args .line .now in
     let self = start .args .self in
     c .wrong3 .ensures ∙ hex-wrong line self (at-if .if1 .left) (at-word-start .word-start .ensures .0) (at-word-end .before .if2 .left) (at-word-end .word-end .ensures .0) _ (sym (c .before .before .before .all-hex .ensures) ∙ not-false _ (c .before .before .if3 .left)) (c .before .if4 .taken)
-
-hex-requires : tie.Need-hex-requires
-hex-requires c κs = search needs
-
-cast-value : tie.Need-cast-value
-cast-value c = search needs
 
 returns-5 : tie.Need-returns-5
 returns-5 c =
@@ -87,20 +54,5 @@ returns-5 c =
 pub hex-spec : {M : Type 1} → statement M
 hex-spec =
     tie.close
-    (tie.spec
-    returns
-    word-start-requires
-    wrong-requires
-    returns-2
-    word-end-requires
-    sub-word
-    part-word-start
-    part-word-end
-    all-hex-requires
-    wrong-requires-2
-    returns-3
-    wrong-requires-3
-    returns-4
-    hex-requires
-    cast-value
-    returns-5)
+    (tie.spec returns (search needs) (search needs) returns-2 (search needs) (search needs) (search needs) (search needs)
+    (search needs) (search needs) returns-3 (search needs) returns-4 (search needs) (search needs) returns-5)

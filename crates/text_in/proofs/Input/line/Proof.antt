@@ -17,12 +17,6 @@ abbrev μ-loop : tie.MeasureT-loop
 loop-holds : tie.Need-loop-holds Inv-loop μ-loop
 loop-holds c = reading-start _ _ _
 
-sub-turns : tie.Need-sub-turns Inv-loop μ-loop
-sub-turns c = search needs
-
-filled-requires : tie.Need-filled-requires Inv-loop μ-loop
-filled-requires c κs = search needs
-
 returns : tie.Need-returns Inv-loop μ-loop
 returns c =
     let r = reading-filled (c .before .before .filled .ensures) (c .before .before .before .before .before .loop .inv) in
@@ -33,27 +27,12 @@ returns-2 c =
     let r = reading-filled (c .before .before .before .filled .ensures) (c .before .before .before .before .before .before .loop .inv) in
     reading-end r (omega arith) refl
 
-element-copy-out-byte : tie.Need-element-copy-out-byte Inv-loop μ-loop
-element-copy-out-byte c = search needs
-
-add-t18 : tie.Need-add-t18 Inv-loop μ-loop
-add-t18 c = search needs
-
 returns-3 : tie.Need-returns-3 Inv-loop μ-loop
 returns-3 c =
     let at-if2 = c .before .before in
     let at-filled = at-if2 .before .before .before in
     let r = reading-filled (at-filled .filled .ensures) (at-filled .before .before .before .loop .inv) in
     reading-lf r (at-if2 .before .if1 .left) (at-if2 .if2 .left) (c .if3 .taken)
-
-store-requires : tie.Need-store-requires Inv-loop μ-loop
-store-requires c κs = search needs
-
-is-dropped-requires : tie.Need-is-dropped-requires Inv-loop μ-loop
-is-dropped-requires c κs = search needs
-
-loop-less : tie.Need-loop-less Inv-loop μ-loop
-loop-less c = search needs
 
 loop-again : tie.Need-loop-again Inv-loop μ-loop
 loop-again c =
@@ -65,9 +44,6 @@ loop-again c =
     let r = reading-filled (at-filled .filled .ensures) (at-filled .before .before .before .loop .inv) in
     reading-on r (at-if2 .before .if1 .left) (at-if2 .if2 .left) false refl (at-if3 .if3 .left)
     (sym (c .before .is-dropped .ensures) ∙ not-true _ (c .if4 .taken)) (stored .0) (stored .1) (omega arith)
-
-loop-less-2 : tie.Need-loop-less-2 Inv-loop μ-loop
-loop-less-2 c = search needs
 
 loop-again-2 : tie.Need-loop-again-2 Inv-loop μ-loop
 loop-again-2 c =
@@ -86,21 +62,5 @@ returns-4 c = reading-limit (c .before .loop .inv) (c .loop-test .left)
 pub line-spec : {M : Type 1} → statement M
 line-spec =
     tie.close
-    (tie.spec
-    Inv-loop
-    μ-loop
-    loop-holds
-    sub-turns
-    filled-requires
-    returns
-    returns-2
-    element-copy-out-byte
-    add-t18
-    returns-3
-    store-requires
-    is-dropped-requires
-    loop-less
-    loop-again
-    loop-less-2
-    loop-again-2
-    returns-4)
+    (tie.spec Inv-loop μ-loop loop-holds (search needs) (search needs) returns returns-2 (search needs) (search needs) returns-3
+    (search needs) (search needs) (search needs) loop-again (search needs) loop-again-2 returns-4)

@@ -9,18 +9,6 @@ use borrow.Author.Needs.{needs}
 use Rattle.text_out.proofs.Output.decimal.Statement.{statement}
 use Rattle.text_out.proofs.Output.decimal.Tie as tie
 
-decimal-requires : tie.Need-decimal-requires
-decimal-requires c κs = search needs
-
-array-share-prefix-spelled : tie.Need-array-share-prefix-spelled
-array-share-prefix-spelled c = search needs
-
-slice-aggregate-bytes : tie.Need-slice-aggregate-bytes
-slice-aggregate-bytes c = search needs
-
-bytes-requires : tie.Need-bytes-requires
-bytes-requires c κs = search needs
-
 returns : tie.Need-returns
 unfolding decimalOf
 returns c =
@@ -31,9 +19,4 @@ returns c =
 pub decimal-spec : {M : Type 1} → statement M
 decimal-spec =
     tie.close
-    (tie.spec
-    decimal-requires
-    array-share-prefix-spelled
-    slice-aggregate-bytes
-    bytes-requires
-    returns)
+    (tie.spec (search needs) (search needs) (search needs) (search needs) returns)

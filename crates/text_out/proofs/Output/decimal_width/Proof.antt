@@ -21,9 +21,6 @@ loop-holds c = omega arith
 add-digits : tie.Need-add-digits Inv-loop μ-loop
 add-digits c = omega (arith, width-at-most (c .before .before .args .n) (omega arith))
 
-loop-less : tie.Need-loop-less Inv-loop μ-loop
-loop-less c = search needs
-
 loop-again : tie.Need-loop-again Inv-loop μ-loop
 loop-again c = omega (arith, c .before .loop .inv, places-more (c .before .loop .rest) (c .loop-test .taken))
 
@@ -37,4 +34,4 @@ returns c =
 pub decimal-width-spec : {M : Type 1} → statement M
 decimal-width-spec =
     tie.close
-    (tie.spec Inv-loop μ-loop loop-holds add-digits loop-less loop-again returns)
+    (tie.spec Inv-loop μ-loop loop-holds add-digits (search needs) loop-again returns)

@@ -7,14 +7,10 @@ use borrow.Author.Needs.{needs}
 use Rattle.text_out.proofs.Output.drained.Statement.{statement}
 use Rattle.text_out.proofs.Output.drained.Tie as tie
 
-returns : tie.Need-returns
-returns c = search needs
-
-write-first-requires : tie.Need-write-first-requires
-write-first-requires c κs = search needs
-
 returns-2 : tie.Need-returns-2
 returns-2 c = (refl, λ h. clash h (c .before .before .if1 .left), λ h. ap not (c .write-first .ensures (omega arith)))
 
 pub drained-spec : {M : Type 1} → statement M
-drained-spec = tie.close (tie.spec returns write-first-requires returns-2)
+drained-spec =
+    tie.close
+    (tie.spec (search needs) (search needs) returns-2)

@@ -20,12 +20,6 @@ abbrev μ-loop : tie.MeasureT-loop
 loop-holds : tie.Need-loop-holds Inv-loop μ-loop
 loop-holds c = owes-start _ _ _
 
-shared-slice-read-byte : tie.Need-shared-slice-read-byte Inv-loop μ-loop
-shared-slice-read-byte c = search needs
-
-sub-if2 : tie.Need-sub-if2 Inv-loop μ-loop
-sub-if2 c = search needs
-
 returns : tie.Need-returns Inv-loop μ-loop
 returns c =
     let at-loop = c .before .before .before .before in
@@ -43,30 +37,6 @@ returns-2 c =
     let here = drop-two (args .template .now) i 0 (omega arith) in
     owes-end (fill-none _ here (c .before .before .if1 .taken) (drop-of-length-le _ (c .if3 .taken))) (at-loop .loop .inv)
 
-add-value : tie.Need-add-value Inv-loop μ-loop
-add-value c = search needs
-
-shared-slice-read-value : tie.Need-shared-slice-read-value Inv-loop μ-loop
-shared-slice-read-value c = search needs
-
-mul-value : tie.Need-mul-value Inv-loop μ-loop
-mul-value c = search needs
-
-shared-slice-read-value-2 : tie.Need-shared-slice-read-value-2 Inv-loop μ-loop
-shared-slice-read-value-2 c = search needs
-
-value-requires : tie.Need-value-requires Inv-loop μ-loop
-value-requires c κs = search needs
-
-add-used : tie.Need-add-used Inv-loop μ-loop
-add-used c = search needs
-
-add-i : tie.Need-add-i Inv-loop μ-loop
-add-i c = search needs
-
-loop-less : tie.Need-loop-less Inv-loop μ-loop
-loop-less c = search needs
-
 loop-again : tie.Need-loop-again Inv-loop μ-loop
 loop-again c =
     let at-if1 = c .before .before .before .before .before .before in
@@ -79,15 +49,6 @@ loop-again c =
     let here = drop-two template i 0 (omega arith) in
     let value = drop-here values used 0 (omega arith) in
     owes-on (valueOf (getD template (i + 1) 0) (getD values used 0)) (fill-value _ here (at-if1 .if1 .taken) value) (c .value .ensures) (at-loop .loop .inv)
-
-byte-requires : tie.Need-byte-requires Inv-loop μ-loop
-byte-requires c κs = search needs
-
-add-i-2 : tie.Need-add-i-2 Inv-loop μ-loop
-add-i-2 c = search needs
-
-loop-less-2 : tie.Need-loop-less-2 Inv-loop μ-loop
-loop-less-2 c = search needs
 
 loop-again-2 : tie.Need-loop-again-2 Inv-loop μ-loop
 loop-again-2 c =
@@ -104,25 +65,6 @@ returns-3 c = owes-end (fill-end _ (drop-of-length-le _ (c .loop-test .left))) (
 pub form-spec : {M : Type 1} → statement M
 form-spec =
     tie.close
-    (tie.spec
-    Inv-loop
-    μ-loop
-    loop-holds
-    shared-slice-read-byte
-    sub-if2
-    returns
-    returns-2
-    add-value
-    shared-slice-read-value
-    mul-value
-    shared-slice-read-value-2
-    value-requires
-    add-used
-    add-i
-    loop-less
-    loop-again
-    byte-requires
-    add-i-2
-    loop-less-2
-    loop-again-2
-    returns-3)
+    (tie.spec Inv-loop μ-loop loop-holds (search needs) (search needs) returns returns-2 (search needs) (search needs)
+    (search needs) (search needs) (search needs) (search needs) (search needs) (search needs) loop-again (search needs)
+    (search needs) (search needs) loop-again-2 returns-3)

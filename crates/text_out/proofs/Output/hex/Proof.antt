@@ -6,18 +6,6 @@ use borrow.Author.Needs.{needs}
 use Rattle.text_out.proofs.Output.hex.Statement.{statement}
 use Rattle.text_out.proofs.Output.hex.Tie as tie
 
-glyph-requires : tie.Need-glyph-requires
-glyph-requires c κs = search needs
-
-byte-requires : tie.Need-byte-requires
-byte-requires c κs = search needs
-
-glyph-requires-2 : tie.Need-glyph-requires-2
-glyph-requires-2 c κs = search needs
-
-byte-requires-2 : tie.Need-byte-requires-2
-byte-requires-2 c κs = search needs
-
 returns : tie.Need-returns
 unfolding hexOf
 returns c =
@@ -26,4 +14,5 @@ returns c =
 
 pub hex-spec : {M : Type 1} → statement M
 hex-spec =
-    tie.close (tie.spec glyph-requires byte-requires glyph-requires-2 byte-requires-2 returns)
+    tie.close
+    (tie.spec (search needs) (search needs) (search needs) (search needs) returns)

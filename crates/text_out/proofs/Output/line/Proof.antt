@@ -4,14 +4,10 @@ use borrow.Author.Needs.{needs}
 use Rattle.text_out.proofs.Output.line.Statement.{statement}
 use Rattle.text_out.proofs.Output.line.Tie as tie
 
-bytes-requires : tie.Need-bytes-requires
-bytes-requires c κs = search needs
-
-line-end-requires : tie.Need-line-end-requires
-line-end-requires c κs = search needs
-
 returns : tie.Need-returns
 returns c = puts-append (c .before .before .bytes .ensures) (c .line-end .ensures)
 
 pub line-spec : {M : Type 1} → statement M
-line-spec = tie.close (tie.spec bytes-requires line-end-requires returns)
+line-spec =
+    tie.close
+    (tie.spec (search needs) (search needs) returns)

@@ -5,21 +5,6 @@ use borrow.Author.Needs.{needs}
 use Rattle.text_out.proofs.Output.value.Statement.{statement}
 use Rattle.text_out.proofs.Output.value.Tie as tie
 
-cast-hex : tie.Need-cast-hex
-cast-hex c = search needs
-
-hex-requires : tie.Need-hex-requires
-hex-requires c κs = search needs
-
-cast-hex-pair : tie.Need-cast-hex-pair
-cast-hex-pair c = search needs
-
-hex-pair-requires : tie.Need-hex-pair-requires
-hex-pair-requires c κs = search needs
-
-decimal-requires : tie.Need-decimal-requires
-decimal-requires c κs = search needs
-
 returns : tie.Need-returns
 returns c = puts-along (value-byte _ (c .before .before .match .keys1)) (c .hex .ensures)
 
@@ -32,12 +17,4 @@ returns-3 c = puts-along (value-decimal _ (c .before .before .match .rest .0 .1)
 pub value-spec : {M : Type 1} → statement M
 value-spec =
     tie.close
-    (tie.spec
-    cast-hex
-    hex-requires
-    cast-hex-pair
-    hex-pair-requires
-    decimal-requires
-    returns
-    returns-2
-    returns-3)
+    (tie.spec (search needs) (search needs) (search needs) (search needs) (search needs) returns returns-2 returns-3)

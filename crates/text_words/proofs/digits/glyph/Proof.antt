@@ -5,19 +5,15 @@ use Rattle.text_words.specs.Text.{glyphOf}
 use Rattle.text_words.proofs.digits.glyph.Statement.{statement}
 use Rattle.text_words.proofs.digits.glyph.Tie as tie
 
-add-result : tie.Need-add-result
-add-result c = search needs
-
 returns : tie.Need-returns
 unfolding glyphOf
 returns c = search (needs, lt-ltb, le-ltb)
-
-add-result-2 : tie.Need-add-result-2
-add-result-2 c = search needs
 
 returns-2 : tie.Need-returns-2
 unfolding glyphOf
 returns-2 c = search (needs, lt-ltb, le-ltb)
 
 pub glyph-spec : {M : Type 1} → statement M
-glyph-spec = tie.close (tie.spec add-result returns add-result-2 returns-2)
+glyph-spec =
+    tie.close
+    (tie.spec (search needs) returns (search needs) returns-2)

@@ -21,9 +21,6 @@ returns-3 c =
     let b = c .before .before .before .args .byte in
     (sym (no-digit b (above 48 57 b (omega arith)) (below 65 70 b (omega arith)) (below 97 102 b (omega arith))), omega arith)
 
-add-result : tie.Need-add-result
-add-result c = search needs
-
 returns-4 : tie.Need-returns-4
 returns-4 c =
     let b = c .before .before .before .before .args .byte in
@@ -33,9 +30,6 @@ returns-5 : tie.Need-returns-5
 returns-5 c =
     let b = c .before .before .before .before .before .args .byte in
     (sym (no-digit b (above 48 57 b (omega arith)) (above 65 70 b (omega arith)) (below 97 102 b (omega arith))), omega arith)
-
-add-result-2 : tie.Need-add-result-2
-add-result-2 c = search needs
 
 returns-6 : tie.Need-returns-6
 returns-6 c =
@@ -50,13 +44,4 @@ returns-7 c =
 pub hex-value-spec : {M : Type 1} → statement M
 hex-value-spec =
     tie.close
-    (tie.spec
-    returns
-    returns-2
-    returns-3
-    add-result
-    returns-4
-    returns-5
-    add-result-2
-    returns-6
-    returns-7)
+    (tie.spec returns returns-2 returns-3 (search needs) returns-4 returns-5 (search needs) returns-6 returns-7)

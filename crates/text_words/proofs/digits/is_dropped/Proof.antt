@@ -9,12 +9,11 @@ returns : tie.Need-returns
 unfolding isDropped
 returns c = search (needs, eq-eqb)
 
-is-blank-requires : tie.Need-is-blank-requires
-is-blank-requires c κs = search needs
-
 returns-2 : tie.Need-returns-2
 unfolding isDropped
 returns-2 c = search (needs, ne-eqb)
 
 pub is-dropped-spec : {M : Type 1} → statement M
-is-dropped-spec = tie.close (tie.spec returns is-blank-requires returns-2)
+is-dropped-spec =
+    tie.close
+    (tie.spec returns (search needs) returns-2)

@@ -20,29 +20,11 @@ abbrev μ-loop : tie.MeasureT-loop
 returns : tie.Need-returns Inv-loop μ-loop
 returns c = sym (decimal-empty _ _ (c .if1 .taken))
 
-all-digits-requires : tie.Need-all-digits-requires Inv-loop μ-loop
-all-digits-requires c κs = search needs
-
 returns-2 : tie.Need-returns-2 Inv-loop μ-loop
 returns-2 c = sym (decimal-none _ _ (c .before .before .if1 .left) (sym (c .before .all-digits .ensures) ∙ not-true _ (c .if2 .taken)))
 
 loop-holds : tie.Need-loop-holds Inv-loop μ-loop
 loop-holds c = (omega arith, refl)
-
-mul-value : tie.Need-mul-value Inv-loop μ-loop
-mul-value c = search needs
-
-shared-slice-read-hex-value : tie.Need-shared-slice-read-hex-value Inv-loop μ-loop
-shared-slice-read-hex-value c = search needs
-
-hex-value-requires : tie.Need-hex-value-requires Inv-loop μ-loop
-hex-value-requires c κs = search needs
-
-cast-value : tie.Need-cast-value Inv-loop μ-loop
-cast-value c = search needs
-
-add-value : tie.Need-add-value Inv-loop μ-loop
-add-value c = search needs
 
 returns-3 : tie.Need-returns-3 Inv-loop μ-loop
 returns-3 c =
@@ -57,12 +39,6 @@ returns-3 c =
     let w = at-loop .loop .inv in
     sym (decimal-large word _ (at-all-digits .before .if1 .left) (sym (at-all-digits .all-digits .ensures) ∙ not-false _ (at-loop .before .if2 .left))
     (omega (arith, number-grows (at-loop .loop .value * 10 + at-hex-value .hex-value .result) (drop (at-loop .loop .i + 1) word))))
-
-add-i : tie.Need-add-i Inv-loop μ-loop
-add-i c = search needs
-
-loop-less : tie.Need-loop-less Inv-loop μ-loop
-loop-less c = search needs
 
 loop-again : tie.Need-loop-again Inv-loop μ-loop
 loop-again c =
@@ -89,20 +65,5 @@ returns-4 c =
 pub decimal-spec : {M : Type 1} → statement M
 decimal-spec =
     tie.close
-    (tie.spec
-    Inv-loop
-    μ-loop
-    returns
-    all-digits-requires
-    returns-2
-    loop-holds
-    mul-value
-    shared-slice-read-hex-value
-    hex-value-requires
-    cast-value
-    add-value
-    returns-3
-    add-i
-    loop-less
-    loop-again
-    returns-4)
+    (tie.spec Inv-loop μ-loop returns (search needs) returns-2 loop-holds (search needs) (search needs) (search needs)
+    (search needs) (search needs) returns-3 (search needs) (search needs) loop-again returns-4)

@@ -22,27 +22,12 @@ loop-holds : tie.Need-loop-holds Inv-loop μ-loop
 unfolding trimmedLength
 loop-holds c = (omega arith, rw (take-length (c .before .args .line .now)))
 
-sub-is-dropped : tie.Need-sub-is-dropped Inv-loop μ-loop
-sub-is-dropped c = search needs
-
-shared-slice-read-is-dropped : tie.Need-shared-slice-read-is-dropped Inv-loop μ-loop
-shared-slice-read-is-dropped c = search needs
-
-is-dropped-requires : tie.Need-is-dropped-requires Inv-loop μ-loop
-is-dropped-requires c κs = search needs
-
 returns : tie.Need-returns Inv-loop μ-loop
 returns c =
     let at-loop = c .before .before .before .before in
     let line = at-loop .before .before .args .line .now in
     let w = at-loop .loop .inv in
     (back-stops isDropped line _ 0 (c .before .before .before .loop-test .taken) (w .0) (sym (c .before .is-dropped .ensures) ∙ not-true _ (c .if1 .taken)) (w .1), w .0)
-
-sub-n : tie.Need-sub-n Inv-loop μ-loop
-sub-n c = search needs
-
-loop-less : tie.Need-loop-less Inv-loop μ-loop
-loop-less c = search needs
 
 loop-again : tie.Need-loop-again Inv-loop μ-loop
 loop-again c =
@@ -59,15 +44,5 @@ returns-2 c =
 pub trimmed-spec : {M : Type 1} → statement M
 trimmed-spec =
     tie.close
-    (tie.spec
-    Inv-loop
-    μ-loop
-    loop-holds
-    sub-is-dropped
-    shared-slice-read-is-dropped
-    is-dropped-requires
-    returns
-    sub-n
-    loop-less
-    loop-again
-    returns-2)
+    (tie.spec Inv-loop μ-loop loop-holds (search needs) (search needs) (search needs) returns (search needs) (search needs)
+    loop-again returns-2)

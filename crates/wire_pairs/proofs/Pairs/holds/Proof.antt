@@ -18,9 +18,6 @@ Inv-loop block number self n i₀ i = (i ≤ n) × (length (self .blocks) ≡ ma
 abbrev μ-loop : tie.MeasureT-loop
 μ-loop block number self n i₀ i = n - i
 
-len-requires : tie.Need-len-requires Inv-loop μ-loop
-len-requires c κs = search needs
-
 loop-holds : tie.Need-loop-holds Inv-loop μ-loop
 loop-holds c = (omega arith, search needs, search needs, refl)
 
@@ -34,9 +31,6 @@ element-copy-out-same-2 c =
     let at-loop-test = c .before in
     let at-len = at-loop-test .before .before in
     omega (arith, at-len .len .ensures, at-loop-test .loop-test .taken)
-
-same-requires : tie.Need-same-requires Inv-loop μ-loop
-same-requires c κs = search needs
 
 returns : tie.Need-returns Inv-loop μ-loop
 unfolding holds pairsOf
@@ -53,9 +47,6 @@ add-i c =
     let at-loop-test = c .before .before .before .before in
     let at-len = at-loop-test .before .before in
     omega (arith, at-len .len .ensures, at-loop-test .loop-test .taken)
-
-loop-less : tie.Need-loop-less Inv-loop μ-loop
-loop-less c = search needs
 
 loop-again : tie.Need-loop-again Inv-loop μ-loop
 unfolding holds pairsOf
@@ -78,16 +69,5 @@ returns-2 c =
 pub holds-spec : {M : Type 1} → statement M
 holds-spec =
     tie.close
-    (tie.spec
-    Inv-loop
-    μ-loop
-    len-requires
-    loop-holds
-    element-copy-out-same
-    element-copy-out-same-2
-    same-requires
-    returns
-    add-i
-    loop-less
-    loop-again
-    returns-2)
+    (tie.spec Inv-loop μ-loop (search needs) loop-holds element-copy-out-same element-copy-out-same-2 (search needs) returns
+    add-i (search needs) loop-again returns-2)

@@ -19,42 +19,9 @@ Inv-loop other self n left₀ end₀ i₀ left end i = (i ≤ n) × (end ≤ i) 
 abbrev μ-loop : tie.MeasureT-loop
 μ-loop other self n left₀ end₀ i₀ left end i = n - i
 
-len-requires : tie.Need-len-requires Inv-loop μ-loop
-len-requires c κs = search needs
-
-none-requires : tie.Need-none-requires Inv-loop μ-loop
-none-requires c κs = search needs
-
 loop-holds : tie.Need-loop-holds Inv-loop μ-loop
 unfolding pairsFrom firsts
 loop-holds c = (omega arith, omega arith, search needs, search needs, search needs, search needs, refl)
-
-element-copy-out-block : tie.Need-element-copy-out-block Inv-loop μ-loop
-element-copy-out-block c = search needs
-
-element-copy-out-number : tie.Need-element-copy-out-number Inv-loop μ-loop
-element-copy-out-number c = search needs
-
-element-write-left : tie.Need-element-write-left Inv-loop μ-loop
-element-write-left c = search needs
-
-element-write-left-2 : tie.Need-element-write-left-2 Inv-loop μ-loop
-element-write-left-2 c = search needs
-
-lacks-requires : tie.Need-lacks-requires Inv-loop μ-loop
-lacks-requires c κs = search needs
-
-one-if-requires : tie.Need-one-if-requires Inv-loop μ-loop
-one-if-requires c κs = search needs
-
-add-end : tie.Need-add-end Inv-loop μ-loop
-add-end c = search needs
-
-add-i : tie.Need-add-i Inv-loop μ-loop
-add-i c = search needs
-
-loop-less : tie.Need-loop-less Inv-loop μ-loop
-loop-less c = search needs
 
 loop-again : tie.Need-loop-again Inv-loop μ-loop
 unfolding pairsOf
@@ -85,20 +52,5 @@ returns c =
 pub missing-spec : {M : Type 1} → statement M
 missing-spec =
     tie.close
-    (tie.spec
-    Inv-loop
-    μ-loop
-    len-requires
-    none-requires
-    loop-holds
-    element-copy-out-block
-    element-copy-out-number
-    element-write-left
-    element-write-left-2
-    lacks-requires
-    one-if-requires
-    add-end
-    add-i
-    loop-less
-    loop-again
-    returns)
+    (tie.spec Inv-loop μ-loop (search needs) (search needs) loop-holds (search needs) (search needs) (search needs)
+    (search needs) (search needs) (search needs) (search needs) (search needs) (search needs) loop-again returns)

@@ -45,15 +45,6 @@ module _ (l : tie.After-reaches-limit) where
   room : {o : Outcome} → conflictOutcome (verdict l) (viewOf (image l)) (position l) (address l) ≡ o → length (written o) ≤ length (startOf l .args .out .now)
   room e = subst (λ (o : Outcome). length (written o) ≤ length (startOf l .args .out .now)) e (startOf l .pre .2)
 
-cast-i : tie.Need-cast-i
-cast-i c = search needs
-
-sub-i : tie.Need-sub-i
-sub-i c = search needs
-
-cast-reaches-limit : tie.Need-cast-reaches-limit
-cast-reaches-limit c = search needs
-
 reaches-limit-requires : tie.Need-reaches-limit-requires
 reaches-limit-requires c κs =
     let start = c .before .before .before .before in
@@ -65,17 +56,11 @@ ignore-requires c κs =
     let l = at-if1 .before in
     (startOf l .pre .0, startOf l .pre .1, room l (ignores l (at-if1 .if1 .taken)))
 
-same-length : tie.Need-same-length
-same-length c = search needs
-
 returns : tie.Need-returns
 returns c =
     let at-ignore = c .before .before in
     let at-if1 = at-ignore .before .before in
     along (ignores (at-if1 .before) (at-if1 .if1 .taken)) (at-ignore .ignore .ensures)
-
-refuse-requires : tie.Need-refuse-requires
-refuse-requires c κs = search needs
 
 returns-2 : tie.Need-returns-2
 returns-2 c =
@@ -92,9 +77,6 @@ restart-requires c κs =
     let l = at-if1 .before in
     (startOf l .pre .0, at-if2 .if2 .left, room l (restarts l (at-if1 .if1 .left) (at-if2 .if2 .left)))
 
-same-length-2 : tie.Need-same-length-2
-same-length-2 c = search needs
-
 returns-3 : tie.Need-returns-3
 returns-3 c =
     let at-restart = c .before .before in
@@ -105,16 +87,5 @@ returns-3 c =
 pub conflict-spec : {M : Type 1} → statement M
 conflict-spec =
     tie.close
-    (tie.spec
-    cast-i
-    sub-i
-    cast-reaches-limit
-    reaches-limit-requires
-    ignore-requires
-    same-length
-    returns
-    refuse-requires
-    returns-2
-    restart-requires
-    same-length-2
-    returns-3)
+    (tie.spec (search needs) (search needs) (search needs) reaches-limit-requires ignore-requires (search needs) returns
+    (search needs) returns-2 restart-requires (search needs) returns-3)

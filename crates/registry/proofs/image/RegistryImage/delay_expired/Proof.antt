@@ -17,18 +17,12 @@ use native.Mathlib.Omega.{arith}
 use Rattle.registry.proofs.image.RegistryImage.delay_expired.Statement.{statement}
 use Rattle.registry.proofs.image.RegistryImage.delay_expired.Tie as tie
 
-refuse-requires : tie.Need-refuse-requires
-refuse-requires c κs = search needs
-
 returns : tie.Need-returns
 unfolding viewOf
 returns c =
     let at-if1 = c .before in
     let start = at-if1 .before .before .before in
     refuses (start .args .out .now) 5 (wrong-pass (viewOf (start .args .self)) (start .args .pass) (at-if1 .if1 .taken)) (c .refuse .ensures)
-
-refuse-requires-2 : tie.Need-refuse-requires-2
-refuse-requires-2 c κs = search needs
 
 returns-2 : tie.Need-returns-2
 unfolding viewOf runs
@@ -38,9 +32,6 @@ returns-2 c =
     let start = at-if1 .before .before .before in
     refuses (start .args .out .now) 8 (no-delay (viewOf (start .args .self)) (start .args .pass) (at-if1 .if1 .left) (ap not (eq-eqb _ _ (at-if2 .if2 .taken)))) (c .refuse2 .ensures)
 
-cast-units : tie.Need-cast-units
-cast-units c = search needs
-
 write-asks-requires : tie.Need-write-asks-requires
 unfolding viewOf runs delayEnds
 write-asks-requires c κs =
@@ -48,9 +39,6 @@ write-asks-requires c κs =
     let at-if1 = at-if2 .before .before .before in
     let start = at-if1 .before .before .before in
     let p = viewOf (start .args .self) in subst (λ (n : ℕ). 0 + length (encodeAll n (asks isSilent 1 (p .rows))) ≤ length (start .args .out .now)) (sym (at-if1 .if1 .left)) (omega (arith, front-room p (delayEnds p) (delays p (start .args .pass) (at-if1 .if1 .left) (ap not (ne-eqb _ _ (at-if2 .if2 .left)))) (delay-front p) refl (start .args .out .now) (start .pre)))
-
-all-changed-requires : tie.Need-all-changed-requires
-all-changed-requires c κs = search needs
 
 finish-requires : tie.Need-finish-requires
 unfolding viewOf runs delayEnds
@@ -61,9 +49,6 @@ finish-requires c κs =
     let at-if1 = at-if2 .before .before .before in
     let start = at-if1 .before .before .before in
     let p = viewOf (start .args .self) in end-room p (delayEnds p) (delays p (start .args .pass) (at-if1 .if1 .left) (ap not (ne-eqb _ _ (at-if2 .if2 .left)))) (delay-front p) (λ i. record { state = p .state; pass = p .pass; size = p .size; delay = false; rows = at-all-changed .all-changed .ensures i }) (start .args .out .now) (wrote-along (ap (λ (n : ℕ). encodeAll n (asks isSilent 1 (p .rows))) (at-if1 .if1 .left)) (at-write-asks .write-asks .ensures)) (start .pre)
-
-same-length : tie.Need-same-length
-same-length c = search needs
 
 returns-3 : tie.Need-returns-3
 unfolding viewOf runs delayEnds
@@ -79,14 +64,5 @@ returns-3 c =
 pub delay-expired-spec : {M : Type 1} → statement M
 delay-expired-spec =
     tie.close
-    (tie.spec
-    refuse-requires
-    returns
-    refuse-requires-2
-    returns-2
-    cast-units
-    write-asks-requires
-    all-changed-requires
-    finish-requires
-    same-length
-    returns-3)
+    (tie.spec (search needs) returns (search needs) returns-2 (search needs) write-asks-requires (search needs) finish-requires
+    (search needs) returns-3)

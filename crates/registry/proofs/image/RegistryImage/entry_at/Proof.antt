@@ -11,27 +11,12 @@ use native.Mathlib.Omega.{arith}
 use Rattle.registry.proofs.image.RegistryImage.entry_at.Statement.{statement}
 use Rattle.registry.proofs.image.RegistryImage.entry_at.Tie as tie
 
-cast-x : tie.Need-cast-x
-cast-x c = search needs
-
-absent-requires : tie.Need-absent-requires
-absent-requires c κs = search needs
-
 returns : tie.Need-returns
 unfolding viewOf
 returns c =
     let at-if1 = c .before in
     let start = at-if1 .before .before in
     c .absent .ensures ∙ row-zero (viewOf (start .args .t1) .rows) (at-if1 .if1 .taken)
-
-cast-clamp : tie.Need-cast-clamp
-cast-clamp c = search needs
-
-clamp-requires : tie.Need-clamp-requires
-clamp-requires c κs = search needs
-
-absent-requires-2 : tie.Need-absent-requires-2
-absent-requires-2 c κs = search needs
 
 returns-2 : tie.Need-returns-2
 unfolding viewOf
@@ -40,12 +25,6 @@ returns-2 c =
     let at-clamp = at-if2 .before in
     let start = at-clamp .before .before .before in
     let g = start .good .0 .1 .1 .1 .1 .1 .1 .1 .0 in let m : length (start .args .t1 .entries) ≡ maxUnits = search (mapped-length, g) in c .absent2 .ensures ∙ row-beyond (viewOf (start .args .t1) .rows) (start .args .position .0) (omega (arith, at-clamp .clamp .ensures, at-if2 .if2 .taken, rows-length (start .args .t1 .entries) m (start .args .t1 .units)))
-
-sub-result : tie.Need-sub-result
-sub-result c = search needs
-
-mul-result : tie.Need-mul-result
-mul-result c = search needs
 
 element-copy-out-result : tie.Need-element-copy-out-result
 element-copy-out-result c =
@@ -64,15 +43,5 @@ returns-3 c =
 pub entry-at-spec : {M : Type 1} → statement M
 entry-at-spec =
     tie.close
-    (tie.spec
-    cast-x
-    absent-requires
-    returns
-    cast-clamp
-    clamp-requires
-    absent-requires-2
-    returns-2
-    sub-result
-    mul-result
-    element-copy-out-result
-    returns-3)
+    (tie.spec (search needs) (search needs) returns (search needs) (search needs) (search needs) returns-2 (search needs)
+    (search needs) element-copy-out-result returns-3)

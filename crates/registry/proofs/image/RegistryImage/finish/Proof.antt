@@ -10,12 +10,6 @@ use Prim.Native.Nat.{_+_, _≤_}
 use Rattle.registry.proofs.image.RegistryImage.finish.Statement.{statement}
 use Rattle.registry.proofs.image.RegistryImage.finish.Tie as tie
 
-cast-outlook-of : tie.Need-cast-outlook-of
-cast-outlook-of c = search needs
-
-outlook-of-requires : tie.Need-outlook-of-requires
-outlook-of-requires c κs = search needs
-
 close-requires : tie.Need-close-requires
 unfolding viewOf
 close-requires c κs =
@@ -24,9 +18,6 @@ close-requires c κs =
     let s = start .args .self in
     let seen = at-outlook-of .outlook-of .ensures in
     subst (λ (os : List Order). start .args .at + length (encodeAll (s .pass) os) ≤ length (start .args .out .now)) (end-orders (viewOf s) (seen .0) (seen .1) (seen .2)) (start .pre)
-
-same-length : tie.Need-same-length
-same-length c = search needs
 
 returns : tie.Need-returns
 unfolding viewOf
@@ -41,9 +32,4 @@ returns c =
 pub finish-spec : {M : Type 1} → statement M
 finish-spec =
     tie.close
-    (tie.spec
-    cast-outlook-of
-    outlook-of-requires
-    close-requires
-    same-length
-    returns)
+    (tie.spec (search needs) (search needs) close-requires (search needs) returns)

@@ -8,24 +8,12 @@ use mathlib.Core.Path.{_≡_, refl}
 use Rattle.registry.proofs.image.RegistryImage.fresh.Statement.{statement}
 use Rattle.registry.proofs.image.RegistryImage.fresh.Tie as tie
 
-cast-stopped : tie.Need-cast-stopped
-cast-stopped c = search needs
-
-stopped-requires : tie.Need-stopped-requires
-stopped-requires c κs = search needs
-
 returns : tie.Need-returns
 unfolding makeAnswer fresh legalSize
 returns c =
     let at-if1 = c .before in
     let start = at-if1 .before in
     let e : viewOf (c .stopped .result) ≡ fresh (start .args .l) = simp (lt-leb _ _ (at-if1 .if1 .taken)) (c .stopped .ensures) in (simp (lt-leb _ _ (at-if1 .if1 .taken)) refl, e, handed-fresh _ (start .args .l) e)
-
-cast-stopped-2 : tie.Need-cast-stopped-2
-cast-stopped-2 c = search needs
-
-stopped-requires-2 : tie.Need-stopped-requires-2
-stopped-requires-2 c κs = search needs
 
 returns-2 : tie.Need-returns-2
 unfolding makeAnswer fresh legalSize
@@ -34,12 +22,6 @@ returns-2 c =
     let at-if1 = at-if2 .before in
     let start = at-if1 .before in
     let e : viewOf (c .stopped2 .result) ≡ fresh (start .args .l) = simp (le-leb _ _ (at-if1 .if1 .left), lt-leb _ _ (at-if2 .if2 .taken)) (c .stopped2 .ensures) in (simp (le-leb _ _ (at-if1 .if1 .left), lt-leb _ _ (at-if2 .if2 .taken)) refl, e, handed-fresh _ (start .args .l) e)
-
-cast-stopped-3 : tie.Need-cast-stopped-3
-cast-stopped-3 c = search needs
-
-stopped-requires-3 : tie.Need-stopped-requires-3
-stopped-requires-3 c κs = search needs
 
 returns-3 : tie.Need-returns-3
 unfolding makeAnswer fresh legalSize
@@ -52,13 +34,5 @@ returns-3 c =
 pub fresh-spec : {M : Type 1} → statement M
 fresh-spec =
     tie.close
-    (tie.spec
-    cast-stopped
-    stopped-requires
-    returns
-    cast-stopped-2
-    stopped-requires-2
-    returns-2
-    cast-stopped-3
-    stopped-requires-3
+    (tie.spec (search needs) (search needs) returns (search needs) (search needs) returns-2 (search needs) (search needs)
     returns-3)

@@ -44,15 +44,6 @@ module _ (w : tie.After-all-counted) where
   left : withRows (rowsOf (image w .units) (w .all-counted .result)) (viewOf (image w)) ≡ withRows (rowsAfter w) (viewOf (image w))
   left = ap (λ (rs : List Row). withRows rs (viewOf (image w))) counted-rows
 
-cast-i : tie.Need-cast-i
-cast-i c = search needs
-
-sub-i : tie.Need-sub-i
-sub-i c = search needs
-
-cast-units : tie.Need-cast-units
-cast-units c = search needs
-
 all-counted-requires : tie.Need-all-counted-requires
 all-counted-requires c κs =
     let start = c .before .before .before .before in
@@ -73,9 +64,6 @@ finish-requires c κs =
     let start = startOf w in
     end-room (viewOf (image w)) (changeRows (rowsAfter w) (viewOf (image w))) refl (told-all w) (left w) (start .args .out .now) (at-tell-entries .tell-entries .ensures) (start .pre .2)
 
-same-length : tie.Need-same-length
-same-length c = search needs
-
 returns : tie.Need-returns
 unfolding viewOf changeRows withRows
 returns c =
@@ -88,12 +76,5 @@ returns c =
 pub ignore-spec : {M : Type 1} → statement M
 ignore-spec =
     tie.close
-    (tie.spec
-    cast-i
-    sub-i
-    cast-units
-    all-counted-requires
-    tell-entries-requires
-    finish-requires
-    same-length
-    returns)
+    (tie.spec (search needs) (search needs) (search needs) all-counted-requires tell-entries-requires finish-requires
+    (search needs) returns)

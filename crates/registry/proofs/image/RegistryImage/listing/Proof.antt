@@ -5,15 +5,11 @@ use borrow.Author.Needs.{needs}
 use Rattle.registry.proofs.image.RegistryImage.listing.Statement.{statement}
 use Rattle.registry.proofs.image.RegistryImage.listing.Tie as tie
 
-cast-listing-of : tie.Need-cast-listing-of
-cast-listing-of c = search needs
-
-listing-of-requires : tie.Need-listing-of-requires
-listing-of-requires c κs = search needs
-
 returns : tie.Need-returns
 unfolding viewOf listing
 returns c = c .listing-of .ensures
 
 pub listing-spec : {M : Type 1} → statement M
-listing-spec = tie.close (tie.spec cast-listing-of listing-of-requires returns)
+listing-spec =
+    tie.close
+    (tie.spec (search needs) (search needs) returns)

@@ -6,15 +6,6 @@ use mathlib.Core.Path.{_∙_, sym}
 use Rattle.registry.proofs.image.RegistryImage.look_up.Statement.{statement}
 use Rattle.registry.proofs.image.RegistryImage.look_up.Tie as tie
 
-is-ok-requires : tie.Need-is-ok-requires
-is-ok-requires c κs = search needs
-
-cast-find : tie.Need-cast-find
-cast-find c = search needs
-
-find-requires : tie.Need-find-requires
-find-requires c κs = search needs
-
 returns : tie.Need-returns
 unfolding viewOf lookUp listing
 returns c =
@@ -29,4 +20,6 @@ returns-2 c =
     simp (sym (at-is-ok .is-ok .ensures) ∙ c .if1 .left)
 
 pub look-up-spec : {M : Type 1} → statement M
-look-up-spec = tie.close (tie.spec is-ok-requires cast-find find-requires returns returns-2)
+look-up-spec =
+    tie.close
+    (tie.spec (search needs) (search needs) (search needs) returns returns-2)

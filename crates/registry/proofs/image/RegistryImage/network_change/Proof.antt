@@ -14,9 +14,6 @@ use native.Mathlib.Omega.{arith}
 use Rattle.registry.proofs.image.RegistryImage.network_change.Statement.{statement}
 use Rattle.registry.proofs.image.RegistryImage.network_change.Tie as tie
 
-refuse-requires : tie.Need-refuse-requires
-refuse-requires c κs = search needs
-
 returns : tie.Need-returns
 unfolding viewOf
 returns c =
@@ -24,21 +21,12 @@ returns c =
     let start = at-if1 .before .before .before in
     refuses (start .args .out .now) 9 (rescans-not (viewOf (start .args .self)) (start .args .nodes) (at-if1 .if1 .taken)) (c .refuse .ensures)
 
-add-write-notice : tie.Need-add-write-notice
-add-write-notice c = search needs
-
 write-notice-requires : tie.Need-write-notice-requires
 unfolding viewOf
 write-notice-requires c κs =
     let at-if1 = c .before .before in
     let start = at-if1 .before .before .before in
     let p = viewOf (start .args .self) in notok-room (start .args .self .pass) (add-one (start .args .self .pass)) (start .args .out .now) (first-room p (NOTOK ∷ []) (replicate (start .args .nodes - 1) newRow) (rescans p (start .args .nodes) (at-if1 .if1 .left)) refl (start .args .out .now) (start .pre .2))
-
-sub-self : tie.Need-sub-self
-sub-self c = search needs
-
-new-entries-requires : tie.Need-new-entries-requires
-new-entries-requires c κs = search needs
 
 scan-requires : tie.Need-scan-requires
 unfolding viewOf withRows
@@ -48,9 +36,6 @@ scan-requires c κs =
     let at-if1 = at-write-notice .before .before .before in
     let start = at-if1 .before .before .before in
     let p = viewOf (start .args .self) in (at-if1 .if1 .left, second-room p (NOTOK ∷ []) (replicate (start .args .nodes - 1) newRow) (rescans p (start .args .nodes) (at-if1 .if1 .left)) (λ i. record { state = p .state; pass = p .pass; size = p .size; delay = p .delay; rows = at-new-entries .new-entries .ensures (start .args .nodes - 1) (omega (arith, start .pre .1)) i }) (start .args .out .now) (notok-wrote (start .args .self .pass) (add-one (start .args .self .pass)) (at-write-notice .write-notice .ensures)) (start .pre .2))
-
-same-length : tie.Need-same-length
-same-length c = search needs
 
 returns-2 : tie.Need-returns-2
 unfolding viewOf withRows
@@ -65,13 +50,5 @@ returns-2 c =
 pub network-change-spec : {M : Type 1} → statement M
 network-change-spec =
     tie.close
-    (tie.spec
-    refuse-requires
-    returns
-    add-write-notice
-    write-notice-requires
-    sub-self
-    new-entries-requires
-    scan-requires
-    same-length
-    returns-2)
+    (tie.spec (search needs) returns (search needs) write-notice-requires (search needs) (search needs) scan-requires
+    (search needs) returns-2)

@@ -24,15 +24,6 @@ returns c =
     let start = c .before .before .before in
     let rs = rowsOf (start .args .self .units) (start .args .self .entries) in sym (by-state (λ (s : State). nodesIn s rs) (start .args .self .state .0) ∙ ap (λ (n : ℕ). cond (eqb n 0) 0 (cond (eqb n 1) (suc (length rs)) (suc (length rs)))) (c .if1 .taken))
 
-cast-clamp : tie.Need-cast-clamp
-cast-clamp c = search needs
-
-clamp-requires : tie.Need-clamp-requires
-clamp-requires c κs = search needs
-
-add-result : tie.Need-add-result
-add-result c = search needs
-
 returns-2 : tie.Need-returns-2
 unfolding viewOf nodes nodesIn
 returns-2 c =
@@ -41,4 +32,6 @@ returns-2 c =
     let g = start .good .0 .1 .1 .1 .1 .1 .1 .1 .0 in let m : length (start .args .self .entries) ≡ maxUnits = search (mapped-length, g) in let rs = rowsOf (start .args .self .units) (start .args .self .entries) in let e : c .clamp .result + 1 ≡ suc (length rs) = omega (arith, c .clamp .ensures, rows-length (start .args .self .entries) m (start .args .self .units)) in e ∙ sym (by-state (λ (s : State). nodesIn s rs) (start .args .self .state .0) ∙ (λ i. cond (ne-eqb (start .args .self .state .0) 0 (at-if1 .if1 .left) i) 0 (cond (eqb (start .args .self .state .0) 1) (suc (length rs)) (suc (length rs)))) ∙ cond-same (eqb (start .args .self .state .0) 1) (suc (length rs)))
 
 pub nodes-spec : {M : Type 1} → statement M
-nodes-spec = tie.close (tie.spec returns cast-clamp clamp-requires add-result returns-2)
+nodes-spec =
+    tie.close
+    (tie.spec returns (search needs) (search needs) (search needs) returns-2)

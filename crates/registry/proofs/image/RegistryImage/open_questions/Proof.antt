@@ -4,15 +4,11 @@ use borrow.Author.Needs.{needs}
 use Rattle.registry.proofs.image.RegistryImage.open_questions.Statement.{statement}
 use Rattle.registry.proofs.image.RegistryImage.open_questions.Tie as tie
 
-cast-open-count : tie.Need-cast-open-count
-cast-open-count c = search needs
-
-open-count-requires : tie.Need-open-count-requires
-open-count-requires c κs = search needs
-
 returns : tie.Need-returns
 unfolding viewOf
 returns c = c .open-count .ensures
 
 pub open-questions-spec : {M : Type 1} → statement M
-open-questions-spec = tie.close (tie.spec cast-open-count open-count-requires returns)
+open-questions-spec =
+    tie.close
+    (tie.spec (search needs) (search needs) returns)

@@ -151,9 +151,6 @@ hears-at h =
     let t = heard-at v in
     subst (λ (n : ℕ). Hears (seatAt (rowsOf (s .units) (s .entries)) n) (addressIn v) (announced r) (h .hear .result)) (next-place s (positionIn v) (t .0) (t .1)) (h .hear .ensures)
 
-refuse-requires : tie.Need-refuse-requires
-refuse-requires c κs = search needs
-
 returns : tie.Need-returns
 unfolding viewOf
 returns c =
@@ -165,15 +162,6 @@ returns c =
     let out = start .args .out .now in
     recorded s (start .pre) b out (step-1 p b (length out) (at-if1 .if1 .taken)) (refuses out 1 refl (c .refuse .ensures))
 
-decode-requires : tie.Need-decode-requires
-decode-requires c κs = search needs
-
-refusal-requires : tie.Need-refusal-requires
-refusal-requires c κs = search needs
-
-refuse-requires-2 : tie.Need-refuse-requires-2
-refuse-requires-2 c κs = search needs
-
 returns-2 : tie.Need-returns-2
 unfolding viewOf
 returns-2 c =
@@ -181,21 +169,6 @@ returns-2 c =
     let j = at-if2 .before in
     let r = j .before .before in
     recorded-at r (step-refused (viewOf (image r)) (given r) (length (lent r)) (r .before .if1 .left) (r .decode .ensures) (tabled j) (at-if2 .if2 .taken)) (refuses (lent r) (j .refusal .result) refl (c .refuse2 .ensures))
-
-seat-of-requires : tie.Need-seat-of-requires
-seat-of-requires c κs = search needs
-
-mul-entry : tie.Need-mul-entry
-mul-entry c = search needs
-
-element-copy-out-entry : tie.Need-element-copy-out-entry
-element-copy-out-entry c = search needs
-
-reply-refusal-requires : tie.Need-reply-refusal-requires
-reply-refusal-requires c κs = search needs
-
-refuse-requires-3 : tie.Need-refuse-requires-3
-refuse-requires-3 c κs = search needs
 
 returns-3 : tie.Need-returns-3
 unfolding viewOf
@@ -209,12 +182,6 @@ returns-3 c =
 enum-told : tie.Need-enum-told
 enum-told c = search needs
 
-refuse-requires-4 : tie.Need-refuse-requires-4
-refuse-requires-4 c κs = search needs
-
-enum-known-event : tie.Need-enum-known-event
-enum-known-event c = search needs
-
 start-requires : tie.Need-start-requires
 unfolding viewOf respondTo
 start-requires c κs =
@@ -224,9 +191,6 @@ start-requires c κs =
     let w = formed r (at-event .event .given .1) in
     (w .0, w .1, fits-at r (own-step m (at-event .event .given .1)))
 
-enum-known-event-2 : tie.Need-enum-known-event-2
-enum-known-event-2 c = search needs
-
 network-change-requires : tie.Need-network-change-requires
 unfolding viewOf respondTo
 network-change-requires c κs =
@@ -235,15 +199,6 @@ network-change-requires c κs =
     let r = readAt m in
     let w = formed r (at-event .event2 .given .1) in
     (w .0, w .1, fits-at r (own-step m (at-event .event2 .given .1)))
-
-enum-told-2 : tie.Need-enum-told-2
-enum-told-2 c = search needs
-
-shut-down-requires : tie.Need-shut-down-requires
-shut-down-requires c κs = search needs
-
-enum-known-event-3 : tie.Need-enum-known-event-3
-enum-known-event-3 c = search needs
 
 cast-hear : tie.Need-cast-hear
 cast-hear c =
@@ -259,9 +214,6 @@ hear-requires c κs =
     let t = heard-at v in
     place-below s x (t .0) (t .1)
 
-conflicts-requires : tie.Need-conflicts-requires
-conflicts-requires c κs = search needs
-
 conflict-requires : tie.Need-conflict-requires
 unfolding viewOf
 conflict-requires c κs =
@@ -274,9 +226,6 @@ conflict-requires c κs =
     let t = heard-at v in
     let whole = t .2 ∙ ap (concluded (viewOf s)) (hears-conflict (hears-at at-hear) (positionIn v) (viewOf s) (sym (at-conflicts .conflicts .ensures) ∙ at-if4 .if4 .taken)) in
     (t .0, reached-size (viewOf s) (startOf r .pre .reached), fits-at r whole)
-
-same-length : tie.Need-same-length
-same-length c = search needs
 
 returns-4 : tie.Need-returns-4
 unfolding viewOf
@@ -305,12 +254,6 @@ reply-requires c κs =
     let whole = t .2 ∙ ap (concluded (viewOf s)) (hears-reply (hears-at at-hear) (positionIn v) (viewOf s) (sym (at-conflicts .conflicts .ensures) ∙ at-if4 .if4 .left)) in
     (t .0, reached-size (viewOf s) (startOf r .pre .reached), fits-at r whole)
 
-enum-known-event-4 : tie.Need-enum-known-event-4
-enum-known-event-4 c = search needs
-
-silenced-requires : tie.Need-silenced-requires
-silenced-requires c κs = search needs
-
 reply-requires-2 : tie.Need-reply-requires-2
 unfolding viewOf
 reply-requires-2 c κs =
@@ -325,9 +268,6 @@ reply-requires-2 c κs =
     let own = at-silenced .silenced .ensures ∙ ap silenced (place-row s x (t .0) (t .1) _) in
     let whole = t .2 ∙ ap (λ (n : Row). replyOutcome (viewOf s) x 0 n finished) (sym own) in
     (t .0, reached-size (viewOf s) (startOf r .pre .reached), fits-at r whole)
-
-enum-known-event-5 : tie.Need-enum-known-event-5
-enum-known-event-5 c = search needs
 
 delay-expired-requires : tie.Need-delay-expired-requires
 unfolding viewOf respondTo
@@ -344,9 +284,6 @@ returns-5 c =
     let r = readAt m in
     recorded-at r (own-step m (at-event .enum-told .given .1)) (refuses (lent r) 2 refl (c .refuse4 .ensures))
 
-same-length-2 : tie.Need-same-length-2
-same-length-2 c = search needs
-
 returns-6 : tie.Need-returns-6
 unfolding viewOf respondTo
 returns-6 c =
@@ -355,9 +292,6 @@ returns-6 c =
     let m = at-event .before .before .before in
     let r = readAt m in
     recorded-at r (own-step m (at-event .event .given .1)) (at-call .start .ensures)
-
-same-length-3 : tie.Need-same-length-3
-same-length-3 c = search needs
 
 returns-7 : tie.Need-returns-7
 unfolding viewOf respondTo
@@ -368,9 +302,6 @@ returns-7 c =
     let r = readAt m in
     recorded-at r (own-step m (at-event .event2 .given .1)) (at-call .network-change .ensures)
 
-same-length-4 : tie.Need-same-length-4
-same-length-4 c = search needs
-
 returns-8 : tie.Need-returns-8
 unfolding viewOf respondTo
 returns-8 c =
@@ -379,9 +310,6 @@ returns-8 c =
     let m = at-event .before .before .before in
     let r = readAt m in
     recorded-at r (own-step m (at-event .enum-told2 .given .1)) (at-call .shut-down .ensures)
-
-same-length-5 : tie.Need-same-length-5
-same-length-5 c = search needs
 
 returns-9 : tie.Need-returns-9
 unfolding viewOf
@@ -396,9 +324,6 @@ returns-9 c =
     let t = heard-at v in
     let whole = t .2 ∙ ap (concluded (viewOf s)) (hears-reply (hears-at at-hear) (positionIn v) (viewOf s) (sym (at-conflicts .conflicts .ensures) ∙ at-if4 .if4 .left)) in
     recorded-at r whole (at-call .reply .ensures)
-
-same-length-6 : tie.Need-same-length-6
-same-length-6 c = search needs
 
 returns-10 : tie.Need-returns-10
 unfolding viewOf
@@ -416,9 +341,6 @@ returns-10 c =
     let whole = t .2 ∙ ap (λ (n : Row). replyOutcome (viewOf s) x 0 n finished) (sym own) in
     recorded-at r whole (at-call .reply2 .ensures)
 
-same-length-7 : tie.Need-same-length-7
-same-length-7 c = search needs
-
 returns-11 : tie.Need-returns-11
 unfolding viewOf respondTo
 returns-11 c =
@@ -431,50 +353,9 @@ returns-11 c =
 pub record-spec : {M : Type 1} → statement M
 record-spec =
     tie.close
-    (tie.spec
-    refuse-requires
-    returns
-    decode-requires
-    refusal-requires
-    refuse-requires-2
-    returns-2
-    seat-of-requires
-    mul-entry
-    element-copy-out-entry
-    reply-refusal-requires
-    refuse-requires-3
-    returns-3
-    enum-told
-    refuse-requires-4
-    enum-known-event
-    start-requires
-    enum-known-event-2
-    network-change-requires
-    enum-told-2
-    shut-down-requires
-    enum-known-event-3
-    cast-hear
-    hear-requires
-    conflicts-requires
-    conflict-requires
-    same-length
-    returns-4
-    reply-requires
-    enum-known-event-4
-    silenced-requires
-    reply-requires-2
-    enum-known-event-5
-    delay-expired-requires
-    returns-5
-    same-length-2
-    returns-6
-    same-length-3
-    returns-7
-    same-length-4
-    returns-8
-    same-length-5
-    returns-9
-    same-length-6
-    returns-10
-    same-length-7
-    returns-11)
+    (tie.spec (search needs) returns (search needs) (search needs) (search needs) returns-2 (search needs) (search needs)
+    (search needs) (search needs) (search needs) returns-3 enum-told (search needs) (search needs) start-requires (search needs)
+    network-change-requires (search needs) (search needs) (search needs) cast-hear hear-requires (search needs)
+    conflict-requires (search needs) returns-4 reply-requires (search needs) (search needs) reply-requires-2 (search needs)
+    delay-expired-requires returns-5 (search needs) returns-6 (search needs) returns-7 (search needs) returns-8 (search needs)
+    returns-9 (search needs) returns-10 (search needs) returns-11)

@@ -10,30 +10,12 @@ use mathlib.Core.Path.{refl}
 use Rattle.registry.proofs.image.RegistryImage.reply.Statement.{statement}
 use Rattle.registry.proofs.image.RegistryImage.reply.Tie as tie
 
-cast-i : tie.Need-cast-i
-cast-i c = search needs
-
-sub-i : tie.Need-sub-i
-sub-i c = search needs
-
-mul-entry : tie.Need-mul-entry
-mul-entry c = search needs
-
-element-copy-out-entry : tie.Need-element-copy-out-entry
-element-copy-out-entry c = search needs
-
 tell-reply-requires : tie.Need-tell-reply-requires
 tell-reply-requires c κs =
     let start = c .before .before .before .before .before in
     let s = start .args .t1 in
     let x = start .args .position .0 in
     (start .pre .1, told-room s x (start .pre .0) (start .args .address .0) (start .args .next) _ (renumberingOf (start .args .step)) (start .args .out .now) (start .pre .2))
-
-mul-next : tie.Need-mul-next
-mul-next c = search needs
-
-element-set-from-next : tie.Need-element-set-from-next
-element-set-from-next c = search needs
 
 finish-requires : tie.Need-finish-requires
 unfolding viewOf withRows
@@ -44,9 +26,6 @@ finish-requires c κs =
     let x = start .args .position .0 in
     closing-room s x (start .pre .0) (start .args .address .0) (start .args .next) _ (renumberingOf (start .args .step)) (start .args .out .now) (start .pre .2) (at-tell-reply .tell-reply .ensures)
     (λ t. record { state = stateOf (s .state .0); pass = s .pass; size = s .size; delay = runs (s .delay .0); rows = put-entry s x (start .pre .0) (start .args .next) refl t })
-
-same-length : tie.Need-same-length
-same-length c = search needs
 
 returns : tie.Need-returns
 unfolding viewOf withRows
@@ -62,14 +41,5 @@ returns c =
 pub reply-spec : {M : Type 1} → statement M
 reply-spec =
     tie.close
-    (tie.spec
-    cast-i
-    sub-i
-    mul-entry
-    element-copy-out-entry
-    tell-reply-requires
-    mul-next
-    element-set-from-next
-    finish-requires
-    same-length
-    returns)
+    (tie.spec (search needs) (search needs) (search needs) (search needs) tell-reply-requires (search needs) (search needs)
+    finish-requires (search needs) returns)

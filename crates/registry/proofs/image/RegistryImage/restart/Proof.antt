@@ -39,22 +39,10 @@ left e =
     ap (λ (rs : List Row). withRows rs (viewOf (image w)))
     (e .all-changed .ensures ∙ ap (map emptied) (counted-at (image w) (startOf w .args .position .0) (startOf w .pre .0) _ _ (w .all-counted .ensures)))
 
-cast-i : tie.Need-cast-i
-cast-i c = search needs
-
-sub-i : tie.Need-sub-i
-sub-i c = search needs
-
-cast-units : tie.Need-cast-units
-cast-units c = search needs
-
 all-counted-requires : tie.Need-all-counted-requires
 all-counted-requires c κs =
     let start = c .before .before .before .before in
     inside (start .args .self) (start .args .position .0) (start .pre .0)
-
-add-write-notice : tie.Need-add-write-notice
-add-write-notice c = search needs
 
 write-notice-requires : tie.Need-write-notice-requires
 unfolding viewOf
@@ -62,9 +50,6 @@ write-notice-requires c κs =
     let w = c .before .before in
     let start = startOf w in
     notok-room (image w .pass) (add-one (image w .pass)) (start .args .out .now) (first-room (viewOf (image w)) (NOTOK ∷ []) (rowsAfter w) refl refl (start .args .out .now) (start .pre .2))
-
-all-changed-requires : tie.Need-all-changed-requires
-all-changed-requires c κs = search needs
 
 scan-requires : tie.Need-scan-requires
 unfolding viewOf withRows
@@ -74,9 +59,6 @@ scan-requires c κs =
     let start = startOf w in
     let at-write-notice = e .before .before .before in
     (start .pre .1, second-room (viewOf (image w)) (NOTOK ∷ []) (rowsAfter w) refl (left e) (start .args .out .now) (notok-wrote (image w .pass) (add-one (image w .pass)) (at-write-notice .write-notice .ensures)) (start .pre .2))
-
-same-length : tie.Need-same-length
-same-length c = search needs
 
 returns : tie.Need-returns
 unfolding viewOf withRows
@@ -91,14 +73,5 @@ returns c =
 pub restart-spec : {M : Type 1} → statement M
 restart-spec =
     tie.close
-    (tie.spec
-    cast-i
-    sub-i
-    cast-units
-    all-counted-requires
-    add-write-notice
-    write-notice-requires
-    all-changed-requires
-    scan-requires
-    same-length
-    returns)
+    (tie.spec (search needs) (search needs) (search needs) all-counted-requires (search needs) write-notice-requires
+    (search needs) scan-requires (search needs) returns)

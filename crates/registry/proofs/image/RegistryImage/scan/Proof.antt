@@ -11,12 +11,6 @@ use native.Mathlib.Numerals.{add-one}
 use Rattle.registry.proofs.image.RegistryImage.scan.Statement.{statement}
 use Rattle.registry.proofs.image.RegistryImage.scan.Tie as tie
 
-add-pass : tie.Need-add-pass
-add-pass c = search needs
-
-cast-units : tie.Need-cast-units
-cast-units c = search needs
-
 write-asks-requires : tie.Need-write-asks-requires
 unfolding viewOf
 write-asks-requires c κs =
@@ -30,9 +24,6 @@ finish-requires c κs =
     let start = at-write-asks .before .before .before .before .before .before in
     let p = viewOf (start .args .self) in scan-room-2 p _ (add-one (start .args .self .pass)) (λ i. record { state = NotOk; pass = add-one (start .args .self .pass) i; size = start .args .self .size; delay = false; rows = p .rows }) (at-write-asks .write-asks .ensures) (start .pre .1)
 
-same-length : tie.Need-same-length
-same-length c = search needs
-
 returns : tie.Need-returns
 unfolding viewOf scanned stateOf runs
 returns c =
@@ -44,4 +35,4 @@ returns c =
 pub scan-spec : {M : Type 1} → statement M
 scan-spec =
     tie.close
-    (tie.spec add-pass cast-units write-asks-requires finish-requires same-length returns)
+    (tie.spec (search needs) (search needs) write-asks-requires finish-requires (search needs) returns)

@@ -6,9 +6,6 @@ use mathlib.Core.Path.{refl}
 use Rattle.registry.proofs.image.RegistryImage.shut_down.Statement.{statement}
 use Rattle.registry.proofs.image.RegistryImage.shut_down.Tie as tie
 
-stopped-requires : tie.Need-stopped-requires
-stopped-requires c κs = search needs
-
 returns : tie.Need-returns
 unfolding viewOf
 returns c =
@@ -16,4 +13,6 @@ returns c =
     shuts (viewOf (start .args .self)) (start .args .out .now) (c .stopped .ensures) refl refl
 
 pub shut-down-spec : {M : Type 1} → statement M
-shut-down-spec = tie.close (tie.spec stopped-requires returns)
+shut-down-spec =
+    tie.close
+    (tie.spec (search needs) returns)

@@ -14,21 +14,12 @@ use native.Mathlib.Omega.{arith}
 use Rattle.registry.proofs.image.RegistryImage.start.Statement.{statement}
 use Rattle.registry.proofs.image.RegistryImage.start.Tie as tie
 
-refuse-requires : tie.Need-refuse-requires
-refuse-requires c κs = search needs
-
 returns : tie.Need-returns
 unfolding viewOf
 returns c =
     let at-if1 = c .before in
     let start = at-if1 .before .before .before in
     refuses (start .args .out .now) 9 (starts-not (viewOf (start .args .self)) (start .args .nodes) (at-if1 .if1 .taken)) (c .refuse .ensures)
-
-sub-self : tie.Need-sub-self
-sub-self c = search needs
-
-new-entries-requires : tie.Need-new-entries-requires
-new-entries-requires c κs = search needs
 
 scan-requires : tie.Need-scan-requires
 unfolding viewOf withRows encodeAll collect
@@ -37,9 +28,6 @@ scan-requires c κs =
     let at-if1 = at-new-entries .before in
     let start = at-if1 .before .before .before in
     let p = viewOf (start .args .self) in (at-if1 .if1 .left, second-room p [] (replicate (start .args .nodes - 1) newRow) (starts p (start .args .nodes) (at-if1 .if1 .left)) (λ i. record { state = p .state; pass = p .pass; size = p .size; delay = p .delay; rows = at-new-entries .new-entries .ensures (start .args .nodes - 1) (omega (arith, start .pre .1)) i }) (start .args .out .now) (wrote-nothing (start .args .out .now) 0) (start .pre .2))
-
-same-length : tie.Need-same-length
-same-length c = search needs
 
 returns-2 : tie.Need-returns-2
 unfolding viewOf withRows encodeAll collect
@@ -53,11 +41,4 @@ returns-2 c =
 pub start-spec : {M : Type 1} → statement M
 start-spec =
     tie.close
-    (tie.spec
-    refuse-requires
-    returns
-    sub-self
-    new-entries-requires
-    scan-requires
-    same-length
-    returns-2)
+    (tie.spec (search needs) returns (search needs) (search needs) scan-requires (search needs) returns-2)

@@ -8,12 +8,11 @@ use mathlib.Core.Path.{refl}
 use Rattle.registry.proofs.image.RegistryImage.stopped.Statement.{statement}
 use Rattle.registry.proofs.image.RegistryImage.stopped.Tie as tie
 
-new-entries-requires : tie.Need-new-entries-requires
-new-entries-requires c κs = search needs
-
 returns : tie.Need-returns
 unfolding viewOf stateOf runs rowsOf firsts
 returns c = refl
 
 pub stopped-spec : {M : Type 1} → statement M
-stopped-spec = tie.close (tie.spec new-entries-requires returns)
+stopped-spec =
+    tie.close
+    (tie.spec (search needs) returns)

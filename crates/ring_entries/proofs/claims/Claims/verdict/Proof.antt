@@ -10,9 +10,6 @@ returns : tie.Need-returns
 unfolding firstThatApplies
 returns c = simp (c .if1 .taken)
 
-in-range-requires : tie.Need-in-range-requires
-in-range-requires c κs = search needs
-
 returns-2 : tie.Need-returns-2
 unfolding firstThatApplies
 returns-2 c =
@@ -27,9 +24,6 @@ returns-3 c =
     let at-in-range = at-if2 .before in
     let at-if1 = at-in-range .before in
     simp (at-if1 .if1 .left, sym (at-in-range .in-range .ensures) ∙ not-false _ (at-if2 .if2 .left), c .if3 .taken)
-
-keeps-other-requires : tie.Need-keeps-other-requires
-keeps-other-requires c κs = search needs
 
 returns-4 : tie.Need-returns-4
 unfolding firstThatApplies
@@ -54,11 +48,4 @@ returns-5 c =
 pub verdict-spec : {M : Type 1} → statement M
 verdict-spec =
     tie.close
-    (tie.spec
-    returns
-    in-range-requires
-    returns-2
-    returns-3
-    keeps-other-requires
-    returns-4
-    returns-5)
+    (tie.spec returns (search needs) returns-2 returns-3 (search needs) returns-4 returns-5)

@@ -5,18 +5,6 @@ use mathlib.Core.Path.{_∙_, ap}
 use Rattle.ring_entries.proofs.claims.Claims.with.Statement.{statement}
 use Rattle.ring_entries.proofs.claims.Claims.with.Tie as tie
 
-bars-requires : tie.Need-bars-requires
-bars-requires c κs = search needs
-
-either-requires : tie.Need-either-requires
-either-requires c κs = search needs
-
-keeps-requires : tie.Need-keeps-requires
-keeps-requires c κs = search needs
-
-either-requires-2 : tie.Need-either-requires-2
-either-requires-2 c κs = search needs
-
 returns : tie.Need-returns
 returns c =
     let at-keeps = c .before in
@@ -28,9 +16,4 @@ returns c =
 pub with-spec : {M : Type 1} → statement M
 with-spec =
     tie.close
-    (tie.spec
-    bars-requires
-    either-requires
-    keeps-requires
-    either-requires-2
-    returns)
+    (tie.spec (search needs) (search needs) (search needs) (search needs) returns)

@@ -5,24 +5,6 @@ use mathlib.Core.Path.{_∙_, ap}
 use Rattle.ring_entries.proofs.outlook.Outlook.with.Statement.{statement}
 use Rattle.ring_entries.proofs.outlook.Outlook.with.Tie as tie
 
-is-open-requires : tie.Need-is-open-requires
-is-open-requires c κs = search needs
-
-either-requires : tie.Need-either-requires
-either-requires c κs = search needs
-
-is-silent-requires : tie.Need-is-silent-requires
-is-silent-requires c κs = search needs
-
-either-requires-2 : tie.Need-either-requires-2
-either-requires-2 c κs = search needs
-
-is-short-requires : tie.Need-is-short-requires
-is-short-requires c κs = search needs
-
-either-requires-3 : tie.Need-either-requires-3
-either-requires-3 c κs = search needs
-
 returns : tie.Need-returns
 returns c =
     let at-is-short = c .before in
@@ -36,11 +18,4 @@ returns c =
 pub with-spec : {M : Type 1} → statement M
 with-spec =
     tie.close
-    (tie.spec
-    is-open-requires
-    either-requires
-    is-silent-requires
-    either-requires-2
-    is-short-requires
-    either-requires-3
-    returns)
+    (tie.spec (search needs) (search needs) (search needs) (search needs) (search needs) (search needs) returns)

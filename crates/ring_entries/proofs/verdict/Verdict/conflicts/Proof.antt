@@ -6,9 +6,6 @@ use borrow.Author.Needs.{needs}
 use Rattle.ring_entries.proofs.verdict.Verdict.conflicts.Statement.{statement}
 use Rattle.ring_entries.proofs.verdict.Verdict.conflicts.Tie as tie
 
-enum-told : tie.Need-enum-told
-enum-told c = search needs
-
 enum-told-2 : tie.Need-enum-told-2
 enum-told-2 c = search needs
 
@@ -44,14 +41,4 @@ returns-5 c = sym (ap (λ (v : Verdict). isConflict (verdictOf v)) (c .enum-told
 pub conflicts-spec : {M : Type 1} → statement M
 conflicts-spec =
     tie.close
-    (tie.spec
-    enum-told
-    enum-told-2
-    enum-told-3
-    enum-told-4
-    enum-told-5
-    returns
-    returns-2
-    returns-3
-    returns-4
-    returns-5)
+    (tie.spec (search needs) enum-told-2 enum-told-3 enum-told-4 enum-told-5 returns returns-2 returns-3 returns-4 returns-5)

@@ -6,9 +6,6 @@ use borrow.Author.Needs.{needs}
 use Rattle.ring_entries.proofs.verdict.Verdict.counts_for.Statement.{statement}
 use Rattle.ring_entries.proofs.verdict.Verdict.counts_for.Tie as tie
 
-enum-told : tie.Need-enum-told
-enum-told c = search needs
-
 enum-told-2 : tie.Need-enum-told-2
 enum-told-2 c = search needs
 
@@ -49,15 +46,5 @@ returns-5 c = rw (c .enum-told5 .given .1) refl
 pub counts-for-spec : {M : Type 1} → statement M
 counts-for-spec =
     tie.close
-    (tie.spec
-    enum-told
-    enum-told-2
-    enum-told-3
-    keeps-requires
-    enum-told-4
-    enum-told-5
-    returns
-    returns-2
-    returns-3
-    returns-4
-    returns-5)
+    (tie.spec (search needs) enum-told-2 enum-told-3 keeps-requires enum-told-4 enum-told-5 returns returns-2 returns-3
+    returns-4 returns-5)

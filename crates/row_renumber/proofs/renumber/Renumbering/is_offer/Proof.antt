@@ -9,9 +9,6 @@ use Rattle.row_renumber.proofs.renumber.Renumbering.is_offer.Tie as tie
 enum-told : tie.Need-enum-told
 enum-told c = search needs
 
-enum-told-2 : tie.Need-enum-told-2
-enum-told-2 c = search needs
-
 returns : tie.Need-returns
 unfolding isOffer
 returns c = sym (ap (λ (x : Renumbering). isOffer (renumberingOf x)) (c .enum-told .given .1))
@@ -21,4 +18,6 @@ unfolding isOffer
 returns-2 c = sym (ap (λ (x : Renumbering). isOffer (renumberingOf x)) (c .enum-told2 .given .1))
 
 pub is-offer-spec : {M : Type 1} → statement M
-is-offer-spec = tie.close (tie.spec enum-told enum-told-2 returns returns-2)
+is-offer-spec =
+    tie.close
+    (tie.spec enum-told (search needs) returns returns-2)

@@ -26,6 +26,12 @@ module _ {A : Type 0} where
   any-out f zero a (x ∷ xs) h e = sym (ap (λ (b : Bool). b || any f xs) e)
   any-out f (suc i) a (x ∷ xs) h e = ap (λ (b : Bool). f x || b) (any-out f i a xs (le-of-suc-le-suc h) e)
 
+  any-but : (f : A → Bool) (i : ℕ) (d : A) (xs : List A) → i < length xs → f (getD xs i d) ≡ false → any f (take i xs ++ drop (suc i) xs) ≡ any f xs
+  unfolding any
+  any-but f i d [] h e = absurd (not-suc-le-zero h)
+  any-but f zero d (x ∷ xs) h e = sym (ap (λ (b : Bool). b || any f xs) e)
+  any-but f (suc i) d (x ∷ xs) h e = ap (λ (b : Bool). f x || b) (any-but f i d xs (le-of-suc-le-suc h) e)
+
   map-around : (g : A → A) (i : ℕ) (a : A) (xs : List A) → i < length xs → map g (take i xs) ++ a ∷ map g (drop (suc i) xs) ≡ set (map g xs) i a
   map-around g i a [] h = absurd (not-suc-le-zero h)
   map-around g zero a (x ∷ xs) h = refl
@@ -54,6 +60,11 @@ module _ (rs : List Row) (i : ℕ) {x : ℕ} (e : x ≡ suc i) (l : i < length r
   pub seat-any : (f : Row → Bool) (n : Row) → f n ≡ false → any f (others (seatAt rs x)) ≡ any f (set rs i n)
   unfolding others
   seat-any f n h = ap (λ (s : Seat). any f (others s)) seat ∙ any-out f i n rs l h
+
+  -- with the row itself, where the test fails for it
+  pub seat-but : (f : Row → Bool) → f (seatAt rs x .row) ≡ false → any f (others (seatAt rs x)) ≡ any f rs
+  unfolding others
+  seat-but f h = ap (λ (s : Seat). any f (others s)) seat ∙ any-but f i noRow rs l (ap f (sym seat-row) ∙ h)
 
   pub seat-pairs : (n : Row) → pairsIn n ≡ [] → collect pairsIn (others (seatAt rs x)) ≡ collect pairsIn (set rs i n)
   unfolding others

@@ -56,7 +56,5 @@ pub fn reaches_limit(
     if entry.counted().at_limit() {
         return true;
     }
-    let mut others = entries;
-    others[seat] = NodeEntry::absent();
-    some_at_limit(count, others, verdict, address)
+    some_at_limit(count, entries, verdict, address)
 }

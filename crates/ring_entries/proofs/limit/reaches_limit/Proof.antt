@@ -20,17 +20,15 @@ returns c =
 
 returns-2 : tie.Need-returns-2
 returns-2 c =
-    let at-absent = c .before in
-    let at-if1 = at-absent .before in
+    let at-if1 = c .before in
     let at-at-limit = at-if1 .before in
     let at-counted = at-at-limit .before in
     let start = at-counted .before .before in
     let full : length (start .args .t2) ≡ maxUnits = search (needs, start .good) in
-    limit-others (start .args .count) (start .args .seat) (start .args .t2) full (start .pre) (verdictOf (start .args .verdict)) (start .args .address .0) _ _
-    (ap atLimit (sym (at-counted .counted .ensures)) ∙ sym (at-at-limit .at-limit .ensures) ∙ at-if1 .if1 .left) (at-absent .absent .ensures) (c .some-at-limit .ensures)
+    limit-others (start .args .count) (start .args .seat) (start .args .t2) full (start .pre) (verdictOf (start .args .verdict)) (start .args .address .0) _
+    (ap atLimit (sym (at-counted .counted .ensures)) ∙ sym (at-at-limit .at-limit .ensures) ∙ at-if1 .if1 .left) (c .some-at-limit .ensures)
 
 pub reaches-limit-spec : {M : Type 1} → statement M
 reaches-limit-spec =
     tie.close
-    (tie.spec (search needs) (search needs) (search needs) (search needs) returns (search needs) (search needs) (search needs)
-    (search needs) returns-2)
+    (tie.spec (search needs) (search needs) (search needs) (search needs) returns (search needs) returns-2)

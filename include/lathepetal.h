@@ -18,6 +18,9 @@
  *   the one that went in, and the lent buffer is as it was. Two differ in part: 16 ends the open message (the buffer is as it was), and
  *   with 10 lathepetal_fresh hands back a picture for L = 12.
  * - Lent bytes beyond those that are written never change.
+ * - A picture that is handed out shows no other marks and counts than those that are named below: its state and the status of every entry
+ *   are values of their enums, its delay is 0 or 1, it has at most LATHEPETAL_MAX_UNITS units, and no entry has more than
+ *   LATHEPETAL_MAX_PAIRS pairs. That holds for all entries of the array, also for those behind the last unit.
  *
  * The box keeps nothing between calls: no globals, no allocation, no locks. Threads may call at the same time, each with its own picture,
  * state and buffers. Stack, with the copies that a call passes and returns: lathepetal_record up to 48 KiB, lathepetal_listing 16 KiB,
@@ -101,7 +104,7 @@ struct lathepetal_entry {
 struct lathepetal_picture {
     uint32_t pass;
     uint8_t state; /* enum lathepetal_state */
-    uint8_t delay; /* 1 while a delay runs */
+    uint8_t delay; /* 1 while a delay runs, else 0 */
     uint8_t size;  /* L */
     uint8_t units; /* how many entries count: N - 1 */
     struct lathepetal_entry entries[LATHEPETAL_MAX_ENTRIES];

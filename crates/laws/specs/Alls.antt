@@ -6,7 +6,7 @@ use mathlib.Core.Logic.{_⊎_, inl, inr}
 use Prim.Native.Nat.{ℕ, zero, suc, _<_}
 use native.Mathlib.Nat.{not-suc-le-zero, le-of-suc-le-suc}
 use native.Mathlib.Omega.{arith}
-use lib.ListN.{length, getD, drop, replicate}
+use lib.ListN.{length, getD, set, drop, replicate}
 use Rattle.laws.specs.Lists.{any, collect}
 use Rattle.laws.specs.Bools.{or-assoc, or-left, or-right, or-false, or-cases, or-true-left, or-true-right, clash}
 
@@ -48,6 +48,11 @@ module _ {A : Type 0} {P : A → Type 0} where
   all-at i d l all-nil = absurd (not-suc-le-zero l)
   all-at zero d l (all-cons h hs) = h
   all-at (suc i) d l (all-cons h hs) = all-at i d (le-of-suc-le-suc l) hs
+
+  pub all-set : (i : ℕ) (y : A) {xs : List A} → P y → All P xs → All P (set xs i y)
+  all-set i y k all-nil = all-nil
+  all-set zero y k (all-cons h hs) = all-cons k hs
+  all-set (suc i) y k (all-cons h hs) = all-cons h (all-set i y k hs)
 
   pub all-of : (xs : List A) → ((x : A) → P x) → All P xs
   all-of [] f = all-nil

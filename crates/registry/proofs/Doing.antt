@@ -16,7 +16,7 @@ use Rattle.rules.specs.Run.{Outcome, refused, taken, concluded, left, written, 
 use Rattle.registry.specs.declared.image.RegistryImage.{RegistryImage}
 use Rattle.registry.specs.declared.record.Recorded.{Recorded}
 use Rattle.registry.specs.View.{viewOf}
-use Rattle.registry.specs.Outcome.{handed, expected, Does, Ends}
+use Rattle.registry.specs.Outcome.{handed, expected, Does, Ends, Marks}
 use Rattle.wire_orders.proofs.Writing.{orders-length, wrote-orders}
 
 -- the same outcome by another name
@@ -31,14 +31,14 @@ isTaken (taken q os) = true
 pub refuses : {came : RegistryImage} {o : Outcome} {r : Recorded} (b : List ℕ) (n : ℕ) → o ≡ refused n → (r .number ≡ n) × (r .length ≡ 0) × (r .picture ≡ came)
     → Does came o b r b
 unfolding handed expected left lent numberOf written
-refuses b n e f = along e (record { outcome = (λ i. record { picture = viewOf (f .2 i); number = f .0 i; length = f .1 i; buffer = b }); kept = λ m h. f .2 })
+refuses b n e f = along e (record { outcome = (λ i. record { picture = viewOf (f .2 i); number = f .0 i; length = f .1 i; buffer = b }); kept = λ m h. f .2; marks = subst Marks (sym (f .2)) })
 
 -- what is handed back with a taken event
 pub takes : {came : RegistryImage} {r : Recorded} {b d : List ℕ} (p : Picture) (c : Change) → viewOf (r .picture) ≡ ended (c .picture)
     → r .number ≡ 0 → r .length ≡ length (encodeAll (c .picture .pass) (ordersOf p c)) → d ≡ sets b 0 (encodeAll (c .picture .pass) (ordersOf p c))
-    → Does came (concluded p (change c)) b r d
+    → (Marks came → Marks (r .picture)) → Does came (concluded p (change c)) b r d
 unfolding handed expected left lent numberOf written concluded pictureOf ended withDelay settled withState isTaken
-takes p c e n f g = record { outcome = (λ i. record { picture = e i; number = n i; length = f i; buffer = g i }); kept = λ n h. clash refl (ap isTaken h) }
+takes p c e n f g m = record { outcome = (λ i. record { picture = e i; number = n i; length = f i; buffer = g i }); kept = λ n h. clash refl (ap isTaken h); marks = m }
 
 pub written-taken : (p : Picture) (c : Change) → written (concluded p (change c)) ≡ encodeAll (c .picture .pass) (ordersOf p c)
 unfolding written concluded pictureOf ended withDelay settled withState
@@ -46,11 +46,11 @@ written-taken p c = refl
 
 module _ {came : RegistryImage} {r : Recorded} {b m d : List ℕ} {at : ℕ} (p : Picture) (c : Change) where
   pub does : Wrote b 0 (encodeAll (c .picture .pass) (c .first ++ told p (c .picture) ++ c .set)) at m → Ends (c .picture) m at r d
-      → Does came (concluded p (change c)) b r d
+      → (Marks came → Marks (r .picture)) → Does came (concluded p (change c)) b r d
   unfolding ordersOf
-  does w e =
+  does w e k =
       let x = wrote-orders (c .picture .pass) (c .first ++ told p (c .picture) ++ c .set) (endOrders (c .picture)) w (record { buffer = e .buffer; place = refl }) in
-      takes p c (e .picture) (e .number) (e .length ∙ x .place ∙ omega arith) (x .buffer)
+      takes p c (e .picture) (e .number) (e .length ∙ x .place ∙ omega arith) (x .buffer) k
 
 -- An event whose change is c: the orders in front of the ending are fs, and the picture that goes to the ending is q.
 module _ (p : Picture) (c : Change) {o : Outcome} (e : o ≡ concluded p (change c)) {fs : List Order} (f : c .first ++ told p (c .picture) ++ c .set ≡ fs)
@@ -69,7 +69,7 @@ module _ (p : Picture) (c : Change) {o : Outcome} (e : o ≡ concluded p (change
     pub end-room : length (written o) ≤ length b → at + length (encodeAll (q .pass) (endOrders q)) ≤ length m
     end-room room = omega (arith, room, whole, w .place, wrote-length w)
 
-    pub done : {came : RegistryImage} {r : Recorded} {d : List ℕ} → Ends q m at r d → Does came o b r d
-    done {came} {r} {d} h =
+    pub done : {came : RegistryImage} {r : Recorded} {d : List ℕ} → Ends q m at r d → (Marks came → Marks (r .picture)) → Does came o b r d
+    done {came} {r} {d} h k =
         along e
-        (does p c (wrote-along (λ i. encodeAll (g i .pass) (sym f i)) w) (subst (λ (x : Picture). Ends x m at r d) g h))
+        (does p c (wrote-along (λ i. encodeAll (g i .pass) (sym f i)) w) (subst (λ (x : Picture). Ends x m at r d) g h) k)

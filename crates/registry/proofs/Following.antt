@@ -12,7 +12,7 @@ use Rattle.rules.proofs.Demand3.{demand3}
 use Rattle.registry.specs.declared.image.RegistryImage.{RegistryImage}
 use Rattle.registry.specs.declared.image.MakeAnswer.the-variants as makes
 use Rattle.registry.specs.View.{viewOf, makeNumberOf, makeAnswer}
-use Rattle.registry.specs.Outcome.{Handed, handed, expected, Does}
+use Rattle.registry.specs.Outcome.{Handed, handed, expected, Does, Marks}
 use Rattle.registry.specs.Calls.{Call, Calls, then-call, imageAt, recordOf, Promises}
 
 -- what one call leaves
@@ -39,6 +39,12 @@ module _ (none : Record) where
   backs p i (b ∷ cs) e (then-call d h) (suc k) c l =
       backs (next p (recordOf b)) (b .result .picture) cs (does-picture b d ∙ ap (λ (q : Picture). next q (recordOf b)) e) h k c (le-of-suc-le-suc l)
 
+marks : (i : RegistryImage) (cs : List Call) → Calls i cs → Marks i → (k : ℕ) → Marks (imageAt i cs k)
+unfolding imageAt
+marks i cs h m zero = m
+marks i [] h m (suc k) = m
+marks i (c ∷ cs) (then-call d h) m (suc k) = marks (c .result .picture) cs h (d .marks m) k
+
 made : (l : ℕ) → makeNumberOf (makeAnswer l) ≡ freshNumber l
 unfolding makeAnswer freshNumber
 made l = go (legalSize l)
@@ -56,5 +62,6 @@ promises =
         pictures = pictures (fresh l) i cs e h;
         backs = backs _ (fresh l) i cs e h;
         demand3 = demand3 l (map recordOf cs);
+        marks = marks i cs h;
       };
     }

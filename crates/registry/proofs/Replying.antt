@@ -17,7 +17,7 @@ use Rattle.ring_tell.specs.Told.{rowTold}
 use Rattle.registry.specs.declared.image.RegistryImage.{RegistryImage}
 use Rattle.registry.specs.declared.record.Recorded.{Recorded}
 use Rattle.registry.specs.View.{viewOf}
-use Rattle.registry.specs.Outcome.{Does, Ends, Seat, replyOutcome}
+use Rattle.registry.specs.Outcome.{Does, Ends, Seat, Marks, replyOutcome}
 use Rattle.ring_answer.specs.Hearing.{replyChange}
 use Rattle.registry.proofs.Doing.{done, end-room, front-room}
 use Rattle.registry.proofs.Places.{front-reply}
@@ -46,6 +46,6 @@ module _ (s : RegistryImage) (x : ℕ) (h : Seat s x) (a : ℕ) (e d : NodeEntry
       unfolding viewOf withRows orders
       closing-room = end-room (viewOf s) (replyChange (seatAt (viewOf s .rows) x) x a (rowOf e) n (viewOf s)) refl (front-reply s x h d a (rowOf e) n) g b wrote room
 
-      pub replied : {r : Recorded} {k : List ℕ} → Ends q l j r k → Does s (replyOutcome (viewOf s) x a (rowOf e) n) b r k
+      pub replied : {r : Recorded} {k : List ℕ} → Ends q l j r k → (Marks s → Marks (r .picture)) → Does s (replyOutcome (viewOf s) x a (rowOf e) n) b r k
       unfolding viewOf withRows orders
-      replied f = done (viewOf s) (replyChange (seatAt (viewOf s .rows) x) x a (rowOf e) n (viewOf s)) refl (front-reply s x h d a (rowOf e) n) g b wrote f
+      replied f m = done (viewOf s) (replyChange (seatAt (viewOf s .rows) x) x a (rowOf e) n (viewOf s)) refl (front-reply s x h d a (rowOf e) n) g b wrote f m

@@ -20,7 +20,7 @@ use Rattle.rules.proofs.Sizes.{told-none}
 use Rattle.registry.specs.declared.image.RegistryImage.{RegistryImage}
 use Rattle.registry.specs.declared.record.Recorded.{Recorded}
 use Rattle.registry.specs.View.{viewOf}
-use Rattle.registry.specs.Outcome.{Does, Ends, scanOrders, Scans}
+use Rattle.registry.specs.Outcome.{Does, Ends, scanOrders, Scans, Marks}
 use Rattle.wire_orders.proofs.Writing.{orders-one, orders-length, wrote-orders}
 use Rattle.registry.proofs.Doing.{takes, written-taken}
 use Rattle.registry.proofs.Telling.{told-asked}
@@ -78,9 +78,10 @@ module _ (p : Picture) (first : List Order) (rs : List Row) where
     second-room {m} {at} w room =
         subst (λ (x : Picture). at + length (encodeAll (suc (x .pass)) (scanOrders x)) ≤ length m) (sym f) (omega (arith, fits room, w .place, wrote-length w))
 
-    pub begins : {came : RegistryImage} {r : Recorded} {m d : List ℕ} {at : ℕ} → Wrote b 0 (encodeAll (suc (p .pass)) first) at m → Scans q m at r d → Does came o b r d
+    pub begins : {came : RegistryImage} {r : Recorded} {m d : List ℕ} {at : ℕ} → Wrote b 0 (encodeAll (suc (p .pass)) first) at m → Scans q m at r d → (Marks came → Marks (r .picture))
+        → Does came o b r d
     unfolding scan scanned withRows
-    begins {came} {r} {m} {d} {at} w s =
+    begins {came} {r} {m} {d} {at} w s k =
         let t = subst (λ (x : Picture). Scans x m at r d) f s in
         let n = suc (p .pass) in
         let x = wrote-orders n first (scanOrders (withRows rs p)) w (record { buffer = t .buffer; place = refl }) in
@@ -88,7 +89,7 @@ module _ (p : Picture) (first : List Order) (rs : List Row) where
         subst (λ (y : Outcome). Does came y b r d) (sym e)
         (takes p (scan first rs p) (t .picture) (t .number)
         (t .length ∙ x .place ∙ omega arith ∙ ap length l)
-        (x .buffer ∙ ap (sets b 0) l))
+        (x .buffer ∙ ap (sets b 0) l) k)
 
 -- START and NCE, with a pass left and without
 module _ (p : Picture) (n : ℕ) where
@@ -110,10 +111,10 @@ module _ (p : Picture) (n : ℕ) where
 
 -- SHUTDOWN writes nothing
 pub shuts : {came : RegistryImage} {r : Recorded} (p : Picture) (b : List ℕ) → _≡_ {A = Picture} (viewOf (r .picture)) (record { state = Off; pass = p .pass; size = p .size; delay = false; rows = [] })
-    → r .number ≡ 0 → r .length ≡ 0 → Does came (concluded p (respond p SHUTDOWN)) b r b
+    → r .number ≡ 0 → r .length ≡ 0 → (Marks came → Marks (r .picture)) → Does came (concluded p (respond p SHUTDOWN)) b r b
 unfolding respond shutDown ended withDelay settled withState becomesOk waits isNotOk isOk ordersOf endOrders okOrder waitOrder encodeAll collect
-shuts p b e n f =
-    takes p (shutDown p) e n (f ∙ ap (λ (os : List Order). length (encodeAll (p .pass) os)) (sym none)) (ap (λ (os : List Order). sets b 0 (encodeAll (p .pass) os)) (sym none))
+shuts p b e n f k =
+    takes p (shutDown p) e n (f ∙ ap (λ (os : List Order). length (encodeAll (p .pass) os)) (sym none)) (ap (λ (os : List Order). sets b 0 (encodeAll (p .pass) os)) (sym none)) k
   where
     none : ordersOf p (shutDown p) ≡ []
     none = ap (λ (os : List Order). [] ++ os ++ [] ++ []) (told-none p (shutDown p .picture) refl)

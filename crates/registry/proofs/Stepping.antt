@@ -25,7 +25,7 @@ use Rattle.wire_events.specs.View.{eventOf}
 use Rattle.registry.specs.declared.image.RegistryImage.{RegistryImage}
 use Rattle.registry.specs.declared.record.Recorded.{Recorded}
 use Rattle.registry.specs.View.{viewOf}
-use Rattle.registry.specs.Outcome.{handed, expected, Handed, Does, Reached, HandedOut, respondTo, WellFormed}
+use Rattle.registry.specs.Outcome.{handed, expected, Handed, Does, Marks, Reached, HandedOut, respondTo, WellFormed}
 use Rattle.ring_refusals.specs.Numbers.{refusalOf}
 
 -- refusals 1 to 4
@@ -130,14 +130,15 @@ reached-fresh : {p : Picture} (l : ℕ) → p ≡ fresh l → Reached p
 unfolding after
 reached-fresh l e = record { size = l; records = []; made = e }
 
-pub handed-fresh : (i : RegistryImage) (l : ℕ) → viewOf i ≡ fresh l → HandedOut i
-handed-fresh i l e = record { reached = reached-fresh l e }
+pub handed-fresh : (i : RegistryImage) (l : ℕ) → viewOf i ≡ fresh l → Marks i → HandedOut i
+handed-fresh i l e m = record { reached = reached-fresh l e; marks = m }
 
 -- a record that does what some outcome says, where that is the rules' own
 module _ (s : RegistryImage) (h : HandedOut s) (b out : List ℕ) where
   pub recorded : {o : Outcome} {r : Recorded} {d : List ℕ} → step (viewOf s) b (length out) ≡ o → Does s o out r d
       → Does s (step (viewOf s) b (length out)) out r d × HandedOut (r .picture)
-  recorded {o} {r} {d} e k = let m = subst (λ (t : Outcome). Does s t out r d) (sym e) k in (m, record { reached = reached-next (viewOf s) (h .reached) b (length out) refl m })
+  recorded {o} {r} {d} e k = let m = subst (λ (t : Outcome). Does s t out r d) (sym e) k in
+      (m, record { reached = reached-next (viewOf s) (h .reached) b (length out) refl m; marks = m .marks (h .marks) })
 
   pub fits : minRoom ≤ length out → {o : Outcome} → step (viewOf s) b (length out) ≡ o → length (written o) ≤ length out
   fits l e = subst (λ (t : Outcome). length (written t) ≤ length out) e (omega (arith, l, reached-room (viewOf s) (h .reached) b (length out)))

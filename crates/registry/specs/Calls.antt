@@ -9,7 +9,7 @@ use Rattle.rules.specs.Claims.{pictureAt, recordAt, Demand3}
 use Rattle.registry.specs.declared.image.RegistryImage.{RegistryImage}
 use Rattle.registry.specs.declared.record.Recorded.{Recorded}
 use Rattle.registry.specs.View.{viewOf, makeNumberOf, makeAnswer}
-use Rattle.registry.specs.Outcome.{handed, expected, Does}
+use Rattle.registry.specs.Outcome.{handed, expected, Does, Marks}
 
 -- one call: the record's bytes, the lent buffer before and after it, and what came back
 pub record Call : Type 0 where
@@ -35,13 +35,14 @@ unfoldable pub recordOf : Call → Record
 recordOf c = record { bytes = c .bytes; room = length (c .before) }
 
 -- Every run from a fresh picture for L has exactly the rules' pictures, and each call hands back what they say: the next picture, the
--- number, the length of the orders and the lent buffer. So demand 3 speaks of it.
+-- number, the length of the orders and the lent buffer. So demand 3 speaks of it. Marks stay marks all along.
 pub record Follows (l : ℕ) (i : RegistryImage) (cs : List Call) : Type 0 where
   pub pictures : (k : ℕ) → viewOf (imageAt i cs k) ≡ pictureAt l (map recordOf cs) k
   pub backs : (k : ℕ) (c : Call) → k < length cs
       → handed (getD cs k c .result) (getD cs k c .after)
       ≡ expected (pictureAt l (map recordOf cs) k) (getD cs k c .before) (offered (pictureAt l (map recordOf cs) k) (recordAt (map recordOf cs) k))
   pub demand3 : Demand3 l (map recordOf cs)
+  pub marks : Marks i → (k : ℕ) → Marks (imageAt i cs k)
 
 pub record Promises : Type 0 where
   -- the number given back where a picture is made is the rules'

@@ -14,6 +14,9 @@ use Rattle.rules.specs.Renumber.{Renumbering}
 use Rattle.rules.specs.Step.{Verdict, Response, refuse, change, respond, asks, scanned, scan, changeRows, emptied, onCounted, conflict}
 use Rattle.rules.specs.Ending.{ended, endOrders}
 use Rattle.rules.specs.Run.{Outcome, refused, concluded, left, lent, numberOf, written, Record, after}
+use Rattle.laws.specs.Alls.{All}
+use Rattle.row_entry.specs.Marks.{Marked}
+use Rattle.ring_state.specs.State.{lastState, lastDelay}
 use Rattle.ring_entries.specs.Verdicts.{countsFor, struck}
 use Rattle.ring_answer.specs.Hearing.{replyChange}
 use Rattle.registry.specs.declared.image.RegistryImage.{RegistryImage}
@@ -35,10 +38,19 @@ handed r buffer = record { picture = viewOf (r .picture); number = r .number; le
 unfoldable pub expected : Picture → List ℕ → Outcome → Handed
 expected p buffer o = record { picture = left p o; number = numberOf o; length = length (written o); buffer = lent buffer o }
 
--- What a record does to the picture that came in: what the rules say, and a refusal hands back the very picture.
+-- The marks and counts that a picture shows to who reads it as it is: a state from OFF to OK, a delay that runs or not, no more units
+-- than there are entries, and every entry marked, whether its unit is there or not.
+pub record Marks (i : RegistryImage) : Type 0 where
+  pub state : i .state .0 ≤ lastState
+  pub delay : i .delay .0 ≤ lastDelay
+  pub units : i .units ≤ maxUnits
+  pub entries : All Marked (i .entries)
+
+-- What a record does to the picture that came in: what the rules say; a refusal hands back the very picture; and marks stay marks.
 pub record Does (came : RegistryImage) (o : Outcome) (before : List ℕ) (r : Recorded) (after : List ℕ) : Type 0 where
   pub outcome : handed r after ≡ expected (viewOf came) before o
   pub kept : (n : ℕ) → o ≡ refused n → r .picture ≡ came
+  pub marks : Marks came → Marks (r .picture)
 
 -- "fresh, or handed back earlier": what some list of records makes of a fresh picture
 pub record Reached (p : Picture) : Type 0 where
@@ -49,6 +61,7 @@ pub record Reached (p : Picture) : Type 0 where
 -- what a caller keeps: a picture as the box handed it out
 pub record HandedOut (i : RegistryImage) : Type 0 where
   pub reached : Reached (viewOf i)
+  pub marks : Marks i
 
 -- the ending of an event whose steps left picture q
 pub record Ends (q : Picture) (before : List ℕ) (at : ℕ) (r : Recorded) (after : List ℕ) : Type 0 where

@@ -4,6 +4,7 @@ ghost use lib.ListN.{length};
 ghost use Rattle.rules.specs.House.{maxPass};
 ghost use Rattle.rules.specs.Run.{written};
 ghost use Rattle.row_entry.specs.View.{rowOf};
+ghost use Rattle.row_entry.specs.Marks.{Marked};
 ghost use Rattle.row_renumber.specs.Marks.{renumberingOf};
 ghost use Rattle.registry.specs.View.{viewOf};
 ghost use Rattle.registry.specs.Outcome.{Does, Seat, replyOutcome, conflictOutcome, ignoreOutcome, restartOutcome};
@@ -32,7 +33,7 @@ impl RegistryImage {
         next: NodeEntry,
         step: Renumbering,
     ) -> Recorded
-        requires { ⌜ Seat self (position .0) × (3 ≤ self .size)
+        requires { ⌜ Seat self (position .0) × (3 ≤ self .size) × Marked next
             × (length (written (replyOutcome (viewOf self) (position .0) (address .0) (rowOf next) (renumberingOf step))) ≤ length (now out)) ⌝ }
         ensures { λ r. ⌜ Does self (replyOutcome (viewOf self) (position .0) (address .0) (rowOf next) (renumberingOf step))
             (now (out .entry)) r (now (out .exit)) ⌝ }

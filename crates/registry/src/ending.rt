@@ -4,7 +4,7 @@ ghost use lib.ListN.{length};
 ghost use Rattle.rules.specs.Order.{encodeAll};
 ghost use Rattle.rules.specs.Ending.{endOrders};
 ghost use Rattle.registry.specs.View.{viewOf};
-ghost use Rattle.registry.specs.Outcome.{Ends};
+ghost use Rattle.registry.specs.Outcome.{Ends, Marks};
 use super::image::RegistryImage;
 use super::record::Recorded;
 use numbers::DONE;
@@ -14,7 +14,7 @@ impl RegistryImage {
     // The ending of an event whose steps left this picture and wrote orders up to `at`.
     pub(crate) fn finish(mut self, out: &mut [u8], at: usize) -> Recorded
         requires { ⌜ at + length (encodeAll (self .pass) (endOrders (viewOf self))) ≤ length (now out) ⌝ }
-        ensures { λ r. ⌜ Ends (viewOf self) (now (out .entry)) at r (now (out .exit)) ⌝ }
+        ensures { λ r. ⌜ Ends (viewOf self) (now (out .entry)) at r (now (out .exit)) × (Marks self → Marks (r .picture)) ⌝ }
     {
         let entries = self.entries;
         let seen = outlook::outlook_of(self.units as usize, entries);

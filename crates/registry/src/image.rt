@@ -2,9 +2,11 @@
 ghost use mathlib.Core.Path.{_≡_};
 ghost use mathlib.Core.Bool.{false};
 ghost use mathlib.Core.List.{[]};
+ghost use Rattle.laws.specs.Alls.{All};
 ghost use Rattle.rules.specs.Picture.{Picture, Off, fresh};
+ghost use Rattle.row_entry.specs.Marks.{Marked};
 ghost use Rattle.registry.specs.View.{viewOf, AllNew, makeNumberOf, makeAnswer};
-ghost use Rattle.registry.specs.Outcome.{HandedOut};
+ghost use Rattle.registry.specs.Outcome.{Marks, HandedOut};
 use numbers::DONE;
 use numbers::ILLEGAL_SIZE;
 use ring_state::CfgDelay;
@@ -54,7 +56,7 @@ impl MakeAnswer {
 
 // Entries that are asked and count nothing yet.
 pub(crate) fn new_entries() -> [NodeEntry; MAX_UNITS]
-    ensures { λ r. ⌜ AllNew r ⌝ }
+    ensures { λ r. ⌜ AllNew r × All Marked r ⌝ }
 {
     [NodeEntry::new(); MAX_UNITS]
 }
@@ -62,7 +64,7 @@ pub(crate) fn new_entries() -> [NodeEntry; MAX_UNITS]
 impl RegistryImage {
     // A picture whose ring does not run.
     pub(crate) fn stopped(pass: u32, size: u8) -> Self
-        ensures { λ r. ⌜ _≡_ {A = Picture} (viewOf r) (record { state = Off; pass = pass; size = size; delay = false; rows = [] }) ⌝ }
+        ensures { λ r. ⌜ (_≡_ {A = Picture} (viewOf r) (record { state = Off; pass = pass; size = size; delay = false; rows = [] })) × Marks r ⌝ }
     {
         RegistryImage {
             pass,

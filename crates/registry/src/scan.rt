@@ -7,7 +7,7 @@ ghost use Rattle.rules.specs.Order.{encodeAll};
 ghost use Rattle.rules.specs.Step.{respond};
 ghost use Rattle.rules.specs.Run.{concluded, written};
 ghost use Rattle.registry.specs.View.{viewOf};
-ghost use Rattle.registry.specs.Outcome.{scanOrders, Scans, Does};
+ghost use Rattle.registry.specs.Outcome.{scanOrders, Scans, Does, Marks};
 use super::image;
 use super::image::RegistryImage;
 use super::record::Recorded;
@@ -31,7 +31,7 @@ impl RegistryImage {
     // A scan of these entries, behind the orders written up to `at`: the next pass, NOTOK, no delay, an ASK for each open question.
     pub(crate) fn scan(mut self, out: &mut [u8], at: usize) -> Recorded
         requires { ⌜ (self .pass < maxPass) × (at + length (encodeAll (suc (self .pass)) (scanOrders (viewOf self))) ≤ length (now out)) ⌝ }
-        ensures { λ r. ⌜ Scans (viewOf self) (now (out .entry)) at r (now (out .exit)) ⌝ }
+        ensures { λ r. ⌜ Scans (viewOf self) (now (out .entry)) at r (now (out .exit)) × (Marks self → Marks (r .picture)) ⌝ }
     {
         let pass = self.pass + 1;
         let units = self.units as usize;

@@ -8,10 +8,12 @@ ghost use Rattle.rules.specs.Picture.{isOpen, rowAt, nodes};
 ghost use Rattle.rules.specs.Listing.{listing, lookUp};
 ghost use Rattle.wire_pairs.specs.View.{pairOf};
 ghost use Rattle.row_entry.specs.View.{rowOf};
+ghost use Rattle.row_entry.specs.Marks.{Marked};
 ghost use Rattle.ring_listing.specs.View.{flatOf};
 ghost use Rattle.ring_lookup.specs.View.{lookupOf};
 ghost use Rattle.ring_state.specs.State.{stateNumber};
 ghost use Rattle.registry.specs.View.{viewOf};
+ghost use Rattle.registry.specs.Outcome.{Marks};
 use super::image::RegistryImage;
 use numbers::NOT_OK;
 use ring_entries::outlook;
@@ -86,7 +88,7 @@ impl RegistryImage {
 
     // The entry of a position; an absent one where the ring has no such position.
     pub fn entry_at(self, position: NodePosition) -> NodeEntry
-        ensures { λ r. ⌜ rowOf r ≡ rowAt (viewOf self .rows) (position .0) ⌝ }
+        ensures { λ r. ⌜ (rowOf r ≡ rowAt (viewOf self .rows) (position .0)) × (Marks self → Marked r) ⌝ }
     {
         let x = position.0 as usize;
         if x == 0 {

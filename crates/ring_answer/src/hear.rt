@@ -7,7 +7,9 @@ ghost use Rattle.rules.specs.Picture.{Row, others, pairsIn, seatAt};
 ghost use Rattle.rules.specs.Renumber.{finished};
 ghost use Rattle.rules.specs.Step.{statusAfter};
 ghost use Rattle.wire_pairs.specs.View.{pairsOf};
+ghost use Rattle.laws.specs.Alls.{All};
 ghost use Rattle.row_entry.specs.View.{rowOf, rowsOf};
+ghost use Rattle.row_entry.specs.Marks.{Marked};
 ghost use Rattle.row_judge.specs.Marks.{judgedOf};
 ghost use Rattle.row_renumber.specs.Marks.{renumberingOf};
 ghost use Rattle.ring_answer.specs.Beside.{heldBy};
@@ -51,7 +53,8 @@ struct Kept {
 
 // The entry of a node whose address is kept: LISTED, or SETTING with its renumbering.
 fn registered(address: LogicalNodeAddress, kept: Pairs, step: Renumbering, bad: u8) -> NodeEntry
-    ensures { λ r. ⌜ _≡_ {A = Row} (rowOf r) (record { status = statusAfter (address .0) (pairsOf kept) (renumberingOf step); bad = bad; silences = 0 }) ⌝ }
+    ensures { λ r. ⌜ (_≡_ {A = Row} (rowOf r) (record { status = statusAfter (address .0) (pairsOf kept) (renumberingOf step); bad = bad; silences = 0 }))
+        × Marked r ⌝ }
 {
     match step {
         Renumbering::Finished => NodeEntry::keeping(LISTED, address, kept, 0, 0, bad),
@@ -116,7 +119,7 @@ pub fn hear(
     announced: Pairs,
 ) -> Heard
     requires { ⌜ seat < min count maxUnits ⌝ }
-    ensures { λ r. ⌜ Hears (seatAt (rowsOf count entries) (suc seat)) (address .0) (pairsOf announced) r ⌝ }
+    ensures { λ r. ⌜ Hears (seatAt (rowsOf count entries) (suc seat)) (address .0) (pairsOf announced) r × (All Marked entries → Marked (r .next)) ⌝ }
 {
     let entry = entries[seat];
     let seen = survey::survey_of(count, entries, seat, address, announced);

@@ -7,7 +7,7 @@ ghost use lib.ListN.{length};
 ghost use Rattle.laws.specs.Buffers.{Wrote};
 ghost use Rattle.rules.specs.Picture.{Ok, isNotOk, isOk};
 ghost use Rattle.rules.specs.Order.{OK, WAIT-SHORT, WAIT-LONG, encodeAll};
-ghost use Rattle.ring_state.specs.State.{stateOf, runs};
+ghost use Rattle.ring_state.specs.State.{stateOf, runs, lastState, lastDelay};
 ghost use Rattle.ring_ending.specs.Closing.{closingOrders, Closes};
 use ring_state::CfgDelay;
 use ring_state::NOTOK;
@@ -40,7 +40,7 @@ fn becomes_ok(state: RegistryState, open: bool) -> bool
 
 // The state, OK where the scan is over.
 fn settled(state: RegistryState, ok: bool) -> RegistryState
-    ensures { λ r. ⌜ stateOf (r .0) ≡ cond ok Ok (stateOf (state .0)) ⌝ }
+    ensures { λ r. ⌜ (stateOf (r .0) ≡ cond ok Ok (stateOf (state .0))) × (state .0 ≤ lastState → r .0 ≤ lastState) ⌝ }
 {
     if ok {
         return RegistryState(OK);
@@ -72,7 +72,7 @@ fn starts_delay(state: RegistryState, delay: CfgDelay, open: bool, silent: bool)
 
 // The delay, running where one starts.
 fn delayed(delay: CfgDelay, starts: bool) -> CfgDelay
-    ensures { λ r. ⌜ runs (r .0) ≡ runs (delay .0) || starts ⌝ }
+    ensures { λ r. ⌜ (runs (r .0) ≡ runs (delay .0) || starts) × (delay .0 ≤ lastDelay → r .0 ≤ lastDelay) ⌝ }
 {
     if starts {
         return CfgDelay(RUNNING);
@@ -118,7 +118,8 @@ pub fn close(
     short: bool,
 ) -> Closed
     requires { ⌜ at + length (encodeAll pass (closingOrders (stateOf (state .0)) (runs (delay .0)) «open» silent short)) ≤ length (now out) ⌝ }
-    ensures { λ r. ⌜ Closes (stateOf (state .0)) (runs (delay .0)) «open» silent short pass (now (out .entry)) at r (now (out .exit)) ⌝ }
+    ensures { λ r. ⌜ Closes (stateOf (state .0)) (runs (delay .0)) «open» silent short pass (now (out .entry)) at r (now (out .exit))
+        × (state .0 ≤ lastState → r .state .0 ≤ lastState) × (delay .0 ≤ lastDelay → r .delay .0 ≤ lastDelay) ⌝ }
 {
     let ok = becomes_ok(state, open);
     let next = settled(state, ok);

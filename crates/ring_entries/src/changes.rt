@@ -5,7 +5,9 @@ ghost use Prim.Native.Nat.{suc, _<_, min};
 ghost use Rattle.rules.specs.House.{maxUnits};
 ghost use Rattle.rules.specs.Picture.{seatAt};
 ghost use Rattle.rules.specs.Step.{onCounted};
+ghost use Rattle.laws.specs.Alls.{All};
 ghost use Rattle.row_entry.specs.View.{rowOf, rowsOf};
+ghost use Rattle.row_entry.specs.Marks.{Marked};
 ghost use Rattle.ring_entries.specs.Verdicts.{verdictOf, countsFor, struck};
 ghost use Rattle.ring_entries.specs.Changes.{changeOf};
 use super::verdict::Verdict;
@@ -27,7 +29,7 @@ pub enum Change {
 
 // A bad announcement is counted for the entry; at the limit it is IGNORED for the announced address.
 fn strike(entry: NodeEntry, limit: bool, address: LogicalNodeAddress) -> NodeEntry
-    ensures { λ r. ⌜ rowOf r ≡ struck limit (address .0) (rowOf entry) ⌝ }
+    ensures { λ r. ⌜ (rowOf r ≡ struck limit (address .0) (rowOf entry)) × (Marked entry → Marked r) ⌝ }
 {
     let counted = entry.counted();
     if limit {
@@ -38,7 +40,7 @@ fn strike(entry: NodeEntry, limit: bool, address: LogicalNodeAddress) -> NodeEnt
 
 // What becomes of one entry.
 fn changed(entry: NodeEntry, change: Change) -> NodeEntry
-    ensures { λ r. ⌜ rowOf r ≡ changeOf change (rowOf entry) ⌝ }
+    ensures { λ r. ⌜ (rowOf r ≡ changeOf change (rowOf entry)) × (Marked entry → Marked r) ⌝ }
 {
     match change {
         Change::Asked => entry.asked(),
@@ -62,7 +64,7 @@ pub fn all_changed(
     entries: [NodeEntry; MAX_UNITS],
     change: Change,
 ) -> [NodeEntry; MAX_UNITS]
-    ensures { λ r. ⌜ rowsOf count r ≡ map (changeOf change) (rowsOf count entries) ⌝ }
+    ensures { λ r. ⌜ (rowsOf count r ≡ map (changeOf change) (rowsOf count entries)) × (All Marked entries → All Marked r) ⌝ }
 {
     let n = row_entry::clamp(count);
     let mut next = entries;
@@ -86,8 +88,8 @@ pub fn all_counted(
     address: LogicalNodeAddress,
 ) -> [NodeEntry; MAX_UNITS]
     requires { ⌜ seat < min count maxUnits ⌝ }
-    ensures { λ r. ⌜ rowsOf count r ≡ onCounted (countsFor (verdictOf verdict) (address .0)) (struck limit (address .0))
-        (seatAt (rowsOf count entries) (suc seat)) ⌝ }
+    ensures { λ r. ⌜ (rowsOf count r ≡ onCounted (countsFor (verdictOf verdict) (address .0)) (struck limit (address .0))
+        (seatAt (rowsOf count entries) (suc seat))) × (All Marked entries → All Marked r) ⌝ }
 {
     let mut next = all_changed(
         count,

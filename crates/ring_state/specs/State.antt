@@ -17,6 +17,13 @@ stateNumber Ok = 2
 unfoldable pub runs : ℕ → Bool
 runs m = not (eqb m 0)
 
+-- the last state, OK, and the last delay, one that runs: what the box hands out shows no other numbers
+abbrev pub lastState : ℕ
+lastState = 2
+
+abbrev pub lastDelay : ℕ
+lastDelay = 1
+
 -- the table's row for a state by its number
 unfoldable pub stateRow : ℕ → ℕ
 stateRow m = cond (eqb m 0) 0 (cond (eqb m 1) 1 2)

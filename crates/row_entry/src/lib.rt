@@ -1,13 +1,14 @@
 // The registry's entry of a node, and what happens to one entry.
 ghost use mathlib.Core.Path.{_≡_};
 ghost use mathlib.Core.List.{[]};
-ghost use Prim.Native.Nat.{min};
+ghost use Prim.Native.Nat.{_≤_, min};
 ghost use Rattle.rules.specs.House.{maxUnits};
 ghost use Rattle.rules.specs.Picture.{Row, WAITING, isOpen, isSilent, isIgnored, keeps, keepsOther, bars, pairsIn, newRow, noRow};
 ghost use Rattle.rules.specs.Renumber.{placeOf, triesOf};
 ghost use Rattle.rules.specs.Step.{silenced, asked, ignored, counted, atLimit, emptied};
 ghost use Rattle.wire_pairs.specs.View.{pairsOf};
 ghost use Rattle.row_entry.specs.View.{statusOf, rowOf, isListed};
+ghost use Rattle.row_entry.specs.Marks.{lastStatus, Marked};
 use sizes::MAX_PAIRS;
 use sizes::MAX_UNITS;
 use wire_address::LogicalNodeAddress;
@@ -66,7 +67,8 @@ pub fn clamp(count: usize) -> usize
 impl NodeEntry {
     // An entry that keeps no pairs.
     fn bare(status: u8, address: LogicalNodeAddress, bad: u8, silences: u8) -> Self
-        ensures { λ r. ⌜ _≡_ {A = Row} (rowOf r) (record { status = statusOf status (address .0) [] 0 0; bad = bad; silences = silences }) ⌝ }
+        ensures { λ r. ⌜ (_≡_ {A = Row} (rowOf r) (record { status = statusOf status (address .0) [] 0 0; bad = bad; silences = silences }))
+            × (status ≤ lastStatus → Marked r) ⌝ }
     {
         NodeEntry {
             address,
@@ -83,21 +85,21 @@ impl NodeEntry {
 
     // An asked entry with these counts.
     fn waiting(bad: u8, silences: u8) -> Self
-        ensures { λ r. ⌜ _≡_ {A = Row} (rowOf r) (record { status = WAITING; bad = bad; silences = silences }) ⌝ }
+        ensures { λ r. ⌜ (_≡_ {A = Row} (rowOf r) (record { status = WAITING; bad = bad; silences = silences })) × Marked r ⌝ }
     {
         NodeEntry::bare(WAITING, LogicalNodeAddress(0), bad, silences)
     }
 
     // An asked entry that counts nothing yet.
     pub fn new() -> Self
-        ensures { λ r. ⌜ rowOf r ≡ newRow ⌝ }
+        ensures { λ r. ⌜ (rowOf r ≡ newRow) × Marked r ⌝ }
     {
         NodeEntry::waiting(0, 0)
     }
 
     // What stands for a position that the ring does not have: IGNORED, for address 0.
     pub fn absent() -> Self
-        ensures { λ r. ⌜ rowOf r ≡ noRow ⌝ }
+        ensures { λ r. ⌜ (rowOf r ≡ noRow) × Marked r ⌝ }
     {
         NodeEntry::bare(IGNORED, LogicalNodeAddress(0), 0, 0)
     }
@@ -111,7 +113,8 @@ impl NodeEntry {
         tries: u8,
         bad: u8,
     ) -> Self
-        ensures { λ r. ⌜ _≡_ {A = Row} (rowOf r) (record { status = statusOf status (address .0) (pairsOf pairs) place tries; bad = bad; silences = 0 }) ⌝ }
+        ensures { λ r. ⌜ (_≡_ {A = Row} (rowOf r) (record { status = statusOf status (address .0) (pairsOf pairs) place tries; bad = bad; silences = 0 }))
+            × (status ≤ lastStatus → Marked r) ⌝ }
     {
         let blocks = pairs.blocks;
         let numbers = pairs.numbers;
@@ -264,7 +267,7 @@ impl NodeEntry {
 
     // NONE: the entry is SILENT and counts a silence.
     pub fn silenced(self) -> Self
-        ensures { λ r. ⌜ rowOf r ≡ silenced (rowOf self) ⌝ }
+        ensures { λ r. ⌜ (rowOf r ≡ silenced (rowOf self)) × Marked r ⌝ }
     {
         if self.silences < MAX_SILENCES {
             return NodeEntry::bare(SILENT, LogicalNodeAddress(0), self.bad, self.silences + 1);
@@ -274,7 +277,7 @@ impl NodeEntry {
 
     // DELAY: a SILENT entry is asked.
     pub fn asked(self) -> Self
-        ensures { λ r. ⌜ rowOf r ≡ asked (rowOf self) ⌝ }
+        ensures { λ r. ⌜ (rowOf r ≡ asked (rowOf self)) × (Marked self → Marked r) ⌝ }
     {
         if self.is_silent() {
             return NodeEntry::waiting(self.bad, self.silences);
@@ -284,7 +287,7 @@ impl NodeEntry {
 
     // A restart: an entry that is not IGNORED is emptied and asked.
     pub fn emptied(self) -> Self
-        ensures { λ r. ⌜ rowOf r ≡ emptied (rowOf self) ⌝ }
+        ensures { λ r. ⌜ (rowOf r ≡ emptied (rowOf self)) × (Marked self → Marked r) ⌝ }
     {
         if self.is_ignored() {
             return self;
@@ -294,14 +297,14 @@ impl NodeEntry {
 
     // The entry is IGNORED for this address.
     pub fn ignored(self, address: LogicalNodeAddress) -> Self
-        ensures { λ r. ⌜ rowOf r ≡ ignored (address .0) (rowOf self) ⌝ }
+        ensures { λ r. ⌜ (rowOf r ≡ ignored (address .0) (rowOf self)) × Marked r ⌝ }
     {
         NodeEntry::bare(IGNORED, address, self.bad, self.silences)
     }
 
     // A bad announcement is counted.
     pub fn counted(mut self) -> Self
-        ensures { λ r. ⌜ rowOf r ≡ counted (rowOf self) ⌝ }
+        ensures { λ r. ⌜ (rowOf r ≡ counted (rowOf self)) × (Marked self → Marked r) ⌝ }
     {
         let bad = self.bad;
         if bad < MAX_BAD {

@@ -16,7 +16,7 @@ write-ok-requires c κs =
     let at-becomes-ok = at-settled .before in
     let start = at-becomes-ok .before .before in
     let a = start .args in
-    let e = are-orders (stateOf (a .state .0)) (runs (a .delay .0)) (a .«open») (a .silent) (a .short) (at-becomes-ok .becomes-ok .ensures) (at-settled .settled .ensures) (at-starts-delay .starts-delay .ensures) in
+    let e = are-orders (stateOf (a .state .0)) (runs (a .delay .0)) (a .«open») (a .silent) (a .short) (at-becomes-ok .becomes-ok .ensures) (at-settled .settled .ensures .0) (at-starts-delay .starts-delay .ensures) in
     room-first (a .pass) (cond (at-becomes-ok .becomes-ok .result) (OK ∷ []) []) (cond (at-starts-delay .starts-delay .result) (cond (a .short) WAIT-SHORT WAIT-LONG ∷ []) []) e (a .at) (a .out .now) (start .pre)
 
 write-wait-requires : tie.Need-write-wait-requires
@@ -27,7 +27,7 @@ write-wait-requires c κs =
     let at-becomes-ok = at-settled .before in
     let start = at-becomes-ok .before .before in
     let a = start .args in
-    let e = are-orders (stateOf (a .state .0)) (runs (a .delay .0)) (a .«open») (a .silent) (a .short) (at-becomes-ok .becomes-ok .ensures) (at-settled .settled .ensures) (at-starts-delay .starts-delay .ensures) in
+    let e = are-orders (stateOf (a .state .0)) (runs (a .delay .0)) (a .«open») (a .silent) (a .short) (at-becomes-ok .becomes-ok .ensures) (at-settled .settled .ensures .0) (at-starts-delay .starts-delay .ensures) in
     room-second (a .pass) (cond (at-becomes-ok .becomes-ok .result) (OK ∷ []) []) (cond (at-starts-delay .starts-delay .result) (cond (a .short) WAIT-SHORT WAIT-LONG ∷ []) []) e (a .at) (a .out .now) (start .pre) (at-write-ok .write-ok .ensures)
 
 returns : tie.Need-returns
@@ -39,15 +39,18 @@ returns c =
     let at-becomes-ok = at-settled .before in
     let a = at-becomes-ok .before .before .args in
     let k = at-becomes-ok .becomes-ok .ensures in
-    let t = at-settled .settled .ensures in
+    let t = at-settled .settled .ensures .0 in
     let w = at-starts-delay .starts-delay .ensures in
     let s = stateOf (a .state .0) in
-    let d = runs (a .delay .0) in
-    record {
-      state = is-state s d (a .«open») (a .silent) (a .short) k t w;
-      delay = is-delay s d (a .«open») (a .silent) (a .short) k t w (c .delayed .ensures);
-      wrote = wrote-both s d (a .«open») (a .silent) (a .short) k t w (a .pass) (at-write-ok .write-ok .ensures) (at-write-wait .write-wait .ensures);
-    }
+    let d = runs (a .delay .0) in (
+      record {
+        state = is-state s d (a .«open») (a .silent) (a .short) k t w;
+        delay = is-delay s d (a .«open») (a .silent) (a .short) k t w (c .delayed .ensures .0);
+        wrote = wrote-both s d (a .«open») (a .silent) (a .short) k t w (a .pass) (at-write-ok .write-ok .ensures) (at-write-wait .write-wait .ensures);
+      },
+      at-settled .settled .ensures .1,
+      c .delayed .ensures .1,
+    )
 
 pub close-spec : {M : Type 1} → statement M
 close-spec =

@@ -8,8 +8,10 @@ use Rattle.ring_entries.proofs.Seats.{seat-own, seat-pairs}
 use Rattle.ring_entries.specs.Verdicts.{verdictOf}
 use Rattle.row_judge.specs.Marks.{orEach}
 use Rattle.laws.specs.Lists.{collect}
+use Rattle.laws.specs.Alls.{All, all-at}
 use Rattle.row_entry.proofs.Arrays.{rows-length}
 use Rattle.row_entry.specs.View.{rowOf, rowsOf}
+use Rattle.row_entry.specs.Marks.{Marked}
 use Rattle.row_entry.specs.declared.NodeEntry.{NodeEntry}
 use Rattle.row_renumber.specs.Marks.{renumberingOf}
 use Rattle.wire_pairs.specs.View.{pairsOf}
@@ -20,7 +22,7 @@ use Rattle.rules.specs.Picture as rules
 use lib.ListN.{getD, length, replicate}
 use mathlib.Core.Bool.{false}
 use mathlib.Core.List.{List, map}
-use mathlib.Core.Path.{_≡_, _∙_, ap, refl, sym}
+use mathlib.Core.Path.{_≡_, _∙_, ap, refl, subst, sym}
 use native.Mathlib.Omega.{arith}
 use borrow.Author.Needs.{needs}
 use Rattle.ring_answer.proofs.hear.hear.Statement.{statement}
@@ -52,6 +54,9 @@ module _ (v : tie.After-verdict) where
   own : (d : NodeEntry) → rowOf (getD (startOf v .args .t2) (startOf v .args .seat) d) ≡ taken v .row
   own d = seat-own (startOf v .args .count) (startOf v .args .seat) (startOf v .args .t2) full (startOf v .pre) d
 
+  own-marked : (d : NodeEntry) → All Marked (startOf v .args .t2) → Marked (getD (startOf v .args .t2) (startOf v .args .seat) d)
+  own-marked d m = all-at (startOf v .args .seat) d (omega (arith, startOf v .pre, full)) m
+
   found : verdictOf (v .verdict .result) ≡ verdictFor (taken v) (address v)
   found =
       let w = v .before .before .survey-of .ensures in
@@ -81,8 +86,10 @@ returns c =
     let at-ignored = c .before in
     let at-enum-told = at-ignored .before in
     let v = at-enum-told .before .before in
-    let u = c .unrenumbered .ensures in
-    heard v (ap verdictOf (at-enum-told .enum-told .given .1)) (ap verdictOf (u .0)) (ap rowOf (u .1) ∙ at-ignored .ignored .ensures ∙ ap (ignored (address v)) (own v _)) (u .2)
+    let u = c .unrenumbered .ensures in (
+      heard v (ap verdictOf (at-enum-told .enum-told .given .1)) (ap verdictOf (u .0)) (ap rowOf (u .1) ∙ at-ignored .ignored .ensures .0 ∙ ap (ignored (address v)) (own v _)) (u .2),
+      λ m. subst Marked (sym (u .1)) (at-ignored .ignored .ensures .1),
+    )
 
 returns-2 : tie.Need-returns-2
 unfolding rowAfter stepAfter
@@ -90,7 +97,7 @@ returns-2 c =
     let at-enum-told = c .before in
     let v = at-enum-told .before .before in
     let u = c .unrenumbered2 .ensures in
-    heard v (ap verdictOf (at-enum-told .enum-told2 .given .1)) (ap verdictOf (u .0)) (ap rowOf (u .1) ∙ own v _) (u .2)
+    (heard v (ap verdictOf (at-enum-told .enum-told2 .given .1)) (ap verdictOf (u .0)) (ap rowOf (u .1) ∙ own v _) (u .2), λ m. subst Marked (sym (u .1)) (own-marked v _ m))
 
 returns-3 : tie.Need-returns-3
 unfolding rowAfter stepAfter
@@ -98,7 +105,7 @@ returns-3 c =
     let at-enum-told = c .before in
     let v = at-enum-told .before .before in
     let u = c .unrenumbered3 .ensures in
-    heard v (ap verdictOf (at-enum-told .enum-told3 .given .1)) (ap verdictOf (u .0)) (ap rowOf (u .1) ∙ own v _) (u .2)
+    (heard v (ap verdictOf (at-enum-told .enum-told3 .given .1)) (ap verdictOf (u .0)) (ap rowOf (u .1) ∙ own v _) (u .2), λ m. subst Marked (sym (u .1)) (own-marked v _ m))
 
 returns-4 : tie.Need-returns-4
 unfolding rowAfter stepAfter
@@ -106,7 +113,7 @@ returns-4 c =
     let at-enum-told = c .before in
     let v = at-enum-told .before .before in
     let u = c .unrenumbered4 .ensures in
-    heard v (ap verdictOf (at-enum-told .enum-told4 .given .1)) (ap verdictOf (u .0)) (ap rowOf (u .1) ∙ own v _) (u .2)
+    (heard v (ap verdictOf (at-enum-told .enum-told4 .given .1)) (ap verdictOf (u .0)) (ap rowOf (u .1) ∙ own v _) (u .2), λ m. subst Marked (sym (u .1)) (own-marked v _ m))
 
 returns-5 : tie.Need-returns-5
 unfolding rowAfter stepAfter rowOf
@@ -115,7 +122,7 @@ returns-5 c =
     let at-enum-told = at-keep .before .before in
     let v = at-enum-told .before .before in
     let k = at-keep .keep .ensures in
-    heard v (ap verdictOf (at-enum-told .enum-told5 .given .1)) refl (row-for (taken v) (announced v) (address v) (own v _) (k .pairs) (k .step) (c .registered .ensures)) (k .step)
+    (heard v (ap verdictOf (at-enum-told .enum-told5 .given .1)) refl (row-for (taken v) (announced v) (address v) (own v _) (k .pairs) (k .step) (c .registered .ensures .0)) (k .step), λ m. c .registered .ensures .1)
 
 pub hear-spec : {M : Type 1} → statement M
 hear-spec =

@@ -25,7 +25,7 @@ returns c =
     let l : start .args .seat < length (rowsOf (start .args .count) (start .args .t2)) = omega (arith, start .pre, rows-length (start .args .t2) full (start .args .count)) in
     let own = seat-own (start .args .count) (start .args .seat) (start .args .t2) full (start .pre) _ in
     c .renumber-from .ensures
-    ∙ (λ t. renumber (freeNumber (pairs-beside (start .args .count) (start .args .t2) (start .args .seat) l (at-absent .absent .result) (at-absent .absent .ensures) t) (pairsOf (start .args .announced)))
+    ∙ (λ t. renumber (freeNumber (pairs-beside (start .args .count) (start .args .t2) (start .args .seat) l (at-absent .absent .result) (at-absent .absent .ensures .0) t) (pairsOf (start .args .announced)))
     ((at-place .place .ensures ∙ ap (λ (r : Row). placeOf (r .status)) own) t) ((at-tries .tries .ensures ∙ ap (λ (r : Row). triesOf (r .status)) own) t) (judgedOf (pairsOf (start .args .announced)) (start .args .good)))
 
 pub renumbering-spec : {M : Type 1} → statement M

@@ -9,7 +9,7 @@ use Rattle.ring_answer.proofs.survey.seen_at.Statement.{statement}
 use Rattle.ring_answer.proofs.survey.seen_at.Tie as tie
 
 returns : tie.Need-returns
-returns c = c .absent .ensures ∙ sym (ap (λ (b : Bool). cond b noRow (rowOf (c .before .before .args .entry))) (eq-eqb _ _ (c .before .if1 .taken)))
+returns c = c .absent .ensures .0 ∙ sym (ap (λ (b : Bool). cond b noRow (rowOf (c .before .before .args .entry))) (eq-eqb _ _ (c .before .if1 .taken)))
 
 returns-2 : tie.Need-returns-2
 returns-2 c = sym (ap (λ (b : Bool). cond b noRow (rowOf (c .before .args .entry))) (ne-eqb _ _ (c .if1 .left)))

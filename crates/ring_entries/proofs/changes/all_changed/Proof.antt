@@ -1,8 +1,10 @@
 -- What is left to change decides.
-use Prim.Native.Nat.{_-_, _≤_}
+use Prim.Native.Nat.{_-_, _<_, _≤_, min}
 use Rattle.ring_entries.proofs.Loops.{change-end, change-on}
 use Rattle.laws.specs.Views.{mapFrom}
+use Rattle.laws.specs.Alls.{All, all-at, all-set}
 use Rattle.row_entry.specs.View.{rowsOf}
+use Rattle.row_entry.specs.Marks.{Marked}
 use Rattle.rules.specs.House.{maxUnits}
 use Rattle.ring_entries.specs.Changes.{changeOf}
 use borrow.Author.Needs.{needs}
@@ -15,13 +17,14 @@ use Rattle.ring_entries.proofs.changes.all_changed.Tie as tie
 
 abbrev Inv-loop : tie.InvT-loop
 Inv-loop count change n next₀ i₀ next i = (i ≤ n) × (length next ≡ maxUnits) × (mapFrom (changeOf change) i (rowsOf count next) ≡ map (changeOf change) (rowsOf count next₀))
+    × (All Marked next₀ → All Marked next)
 
 abbrev μ-loop : tie.MeasureT-loop
 μ-loop count change n next₀ i₀ next i = n - i
 
 loop-holds : tie.Need-loop-holds Inv-loop μ-loop
 unfolding mapFrom
-loop-holds c = (omega arith, search needs, refl)
+loop-holds c = (omega arith, search needs, refl, λ m. m)
 
 mul-entry : tie.Need-mul-entry Inv-loop μ-loop
 mul-entry c =
@@ -56,14 +59,21 @@ loop-again c =
     let at-loop = at-loop-test .before in
     let at-clamp = at-loop .before in
     let start = at-clamp .before in
-    let w = at-loop .loop .inv in (omega arith, simp length-set (w .1), change-on (start .args .count) (at-loop .loop .i) (at-loop .loop .next) (w .1) (changeOf (start .args .change)) _ (c .changed .result) (omega (arith, at-clamp .clamp .ensures, at-loop-test .loop-test .taken)) (c .changed .ensures) (w .2))
+    let w = at-loop .loop .inv in
+    let i = at-loop .loop .i in
+    let l : i < min (start .args .count) maxUnits = omega (arith, at-clamp .clamp .ensures, at-loop-test .loop-test .taken) in (
+      omega arith,
+      simp length-set (w .1),
+      change-on (start .args .count) i (at-loop .loop .next) (w .1) (changeOf (start .args .change)) _ (c .changed .result) l (c .changed .ensures .0) (w .2),
+      λ m. all-set i (c .changed .result) (c .changed .ensures .1 (all-at i _ (omega (arith, l, w .1)) (w .3 m))) (w .3 m),
+    )
 
 returns : tie.Need-returns Inv-loop μ-loop
 returns c =
     let at-loop = c .before in
     let at-clamp = at-loop .before in
     let start = at-clamp .before in
-    let w = at-loop .loop .inv in change-end (start .args .count) (at-loop .loop .i) (at-loop .loop .next) (w .1) (changeOf (start .args .change)) (omega (arith, at-clamp .clamp .ensures, c .loop-test .left)) (w .2)
+    let w = at-loop .loop .inv in (change-end (start .args .count) (at-loop .loop .i) (at-loop .loop .next) (w .1) (changeOf (start .args .change)) (omega (arith, at-clamp .clamp .ensures, c .loop-test .left)) (w .2), w .3)
 
 pub all-changed-spec : {M : Type 1} → statement M
 all-changed-spec =

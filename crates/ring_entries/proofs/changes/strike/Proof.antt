@@ -12,13 +12,13 @@ returns c =
     let at-if1 = c .before in
     let at-counted = at-if1 .before in
     let start = at-counted .before in
-    simp (at-if1 .if1 .taken) (c .ignored .ensures ∙ ap (ignored (start .args .address .0)) (at-counted .counted .ensures))
+    (simp (at-if1 .if1 .taken) (c .ignored .ensures .0 ∙ ap (ignored (start .args .address .0)) (at-counted .counted .ensures .0)), λ m. c .ignored .ensures .1)
 
 returns-2 : tie.Need-returns-2
 unfolding struck
 returns-2 c =
     let at-counted = c .before in
-    simp (c .if1 .left) (at-counted .counted .ensures)
+    (simp (c .if1 .left) (at-counted .counted .ensures .0), at-counted .counted .ensures .1)
 
 pub strike-spec : {M : Type 1} → statement M
 strike-spec =

@@ -12,7 +12,7 @@ returns c =
     let at-counted = c .before in
     let at-if1 = at-counted .before in
     let at-counts-for = at-if1 .before in
-    simp (sym (at-counts-for .counts-for .ensures) ∙ at-if1 .if1 .taken) (c .at-limit .ensures ∙ ap atLimit (at-counted .counted .ensures))
+    simp (sym (at-counts-for .counts-for .ensures) ∙ at-if1 .if1 .taken) (c .at-limit .ensures ∙ ap atLimit (at-counted .counted .ensures .0))
 
 returns-2 : tie.Need-returns-2
 unfolding countsAtLimit

@@ -16,7 +16,7 @@ returns c =
     let start = at-counted .before .before in
     let full : length (start .args .t2) ≡ maxUnits = search (needs, start .good) in
     limit-own (start .args .count) (start .args .seat) (start .args .t2) full (start .pre) (verdictOf (start .args .verdict)) (start .args .address .0) _
-    (ap atLimit (sym (at-counted .counted .ensures)) ∙ sym (at-at-limit .at-limit .ensures) ∙ c .if1 .taken)
+    (ap atLimit (sym (at-counted .counted .ensures .0)) ∙ sym (at-at-limit .at-limit .ensures) ∙ c .if1 .taken)
 
 returns-2 : tie.Need-returns-2
 returns-2 c =
@@ -26,7 +26,7 @@ returns-2 c =
     let start = at-counted .before .before in
     let full : length (start .args .t2) ≡ maxUnits = search (needs, start .good) in
     limit-others (start .args .count) (start .args .seat) (start .args .t2) full (start .pre) (verdictOf (start .args .verdict)) (start .args .address .0) _
-    (ap atLimit (sym (at-counted .counted .ensures)) ∙ sym (at-at-limit .at-limit .ensures) ∙ at-if1 .if1 .left) (c .some-at-limit .ensures)
+    (ap atLimit (sym (at-counted .counted .ensures .0)) ∙ sym (at-at-limit .at-limit .ensures) ∙ at-if1 .if1 .left) (c .some-at-limit .ensures)
 
 pub reaches-limit-spec : {M : Type 1} → statement M
 reaches-limit-spec =

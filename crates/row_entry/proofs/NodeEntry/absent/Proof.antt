@@ -2,12 +2,13 @@
 use Rattle.row_entry.specs.View.{statusOf}
 use Rattle.rules.specs.Picture.{noRow}
 use borrow.Author.Needs.{needs}
+use native.Mathlib.Omega.{arith}
 use Rattle.row_entry.proofs.NodeEntry.absent.Statement.{statement}
 use Rattle.row_entry.proofs.NodeEntry.absent.Tie as tie
 
 returns : tie.Need-returns
 unfolding noRow statusOf
-returns c = c .bare .ensures
+returns c = (c .bare .ensures .0, c .bare .ensures .1 (omega arith))
 
 pub absent-spec : {M : Type 1} → statement M
 absent-spec =

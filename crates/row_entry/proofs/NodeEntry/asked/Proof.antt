@@ -12,13 +12,13 @@ unfolding asked withStatus rowOf
 returns c =
     let at-if1 = c .before in
     let at-is-silent = at-if1 .before in
-    simp (sym (at-is-silent .is-silent .ensures) ∙ at-if1 .if1 .taken) (c .waiting .ensures)
+    (simp (sym (at-is-silent .is-silent .ensures) ∙ at-if1 .if1 .taken) (c .waiting .ensures .0), λ m. c .waiting .ensures .1)
 
 returns-2 : tie.Need-returns-2
 unfolding asked
 returns-2 c =
     let at-is-silent = c .before in
-    simp (sym (at-is-silent .is-silent .ensures) ∙ c .if1 .left)
+    (simp (sym (at-is-silent .is-silent .ensures) ∙ c .if1 .left), λ m. m)
 
 pub asked-spec : {M : Type 1} → statement M
 asked-spec =

@@ -3,12 +3,13 @@ use Rattle.laws.specs.Views.{firsts}
 use Rattle.wire_pairs.specs.View.{pairsFrom}
 use Rattle.row_entry.specs.View.{rowOf}
 use mathlib.Core.Path.{refl}
+use native.Mathlib.Omega.{arith}
 use Rattle.row_entry.proofs.NodeEntry.bare.Statement.{statement}
 use Rattle.row_entry.proofs.NodeEntry.bare.Tie as tie
 
 returns : tie.Need-returns
 unfolding rowOf pairsFrom firsts
-returns c = refl
+returns c = (refl, λ h. record { status = h; count = omega arith })
 
 pub bare-spec : {M : Type 1} → statement M
 bare-spec = tie.close (tie.spec returns)

@@ -11,14 +11,14 @@ returns : tie.Need-returns
 unfolding emptied
 returns c =
     let at-is-ignored = c .before in
-    simp (sym (at-is-ignored .is-ignored .ensures) ∙ c .if1 .taken)
+    (simp (sym (at-is-ignored .is-ignored .ensures) ∙ c .if1 .taken), λ m. m)
 
 returns-2 : tie.Need-returns-2
 unfolding emptied withStatus rowOf
 returns-2 c =
     let at-if1 = c .before in
     let at-is-ignored = at-if1 .before in
-    simp (sym (at-is-ignored .is-ignored .ensures) ∙ at-if1 .if1 .left) (c .waiting .ensures)
+    (simp (sym (at-is-ignored .is-ignored .ensures) ∙ at-if1 .if1 .left) (c .waiting .ensures .0), λ m. c .waiting .ensures .1)
 
 pub emptied-spec : {M : Type 1} → statement M
 emptied-spec =

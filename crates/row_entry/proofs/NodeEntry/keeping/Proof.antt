@@ -3,9 +3,9 @@ use Prim.Native.Nat.{ℕ}
 use Rattle.wire_pairs.proofs.Arrays.{pairs-min}
 use Rattle.wire_pairs.specs.View.{pairsFrom, pairsOf}
 use Rattle.row_entry.specs.View.{rowOf, statusOf}
-use Rattle.rules.specs.Cases.{silences}
 use borrow.Author.Needs.{needs}
 use mathlib.Core.Path.{_∙_, ap}
+use native.Mathlib.Omega.{arith}
 use Rattle.row_entry.proofs.NodeEntry.keeping.Statement.{statement}
 use Rattle.row_entry.proofs.NodeEntry.keeping.Tie as tie
 
@@ -13,7 +13,10 @@ returns : tie.Need-returns
 unfolding rowOf pairsOf
 returns c =
     let start = c .before .before .before in
-    let e = ap (λ (k : ℕ). pairsFrom k (start .args .pairs .blocks) (start .args .pairs .numbers)) (c .len .ensures) ∙ pairs-min _ (start .args .pairs .blocks) (start .args .pairs .numbers) (search needs) (search needs) (start .args .pairs .count) in (λ i. record { status = statusOf (start .args .status) (start .args .address .0) (e i) (start .args .place) (start .args .tries); bad = start .args .bad; silences = 0 })
+    let e = ap (λ (k : ℕ). pairsFrom k (start .args .pairs .blocks) (start .args .pairs .numbers)) (c .len .ensures) ∙ pairs-min _ (start .args .pairs .blocks) (start .args .pairs .numbers) (search needs) (search needs) (start .args .pairs .count) in (
+      (λ i. record { status = statusOf (start .args .status) (start .args .address .0) (e i) (start .args .place) (start .args .tries); bad = start .args .bad; silences = 0 }),
+      λ h. record { status = h; count = omega (arith, c .len .ensures) },
+    )
 
 pub keeping-spec : {M : Type 1} → statement M
 keeping-spec =

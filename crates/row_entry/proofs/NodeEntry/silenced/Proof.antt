@@ -12,13 +12,13 @@ returns : tie.Need-returns
 unfolding silenced statusOf rowOf
 returns c =
     let start = c .before .before .before .before in
-    let e : min 20 (suc (start .args .self .silences)) ≡ start .args .self .silences + 1 = omega arith in rw e (c .bare .ensures)
+    let e : min 20 (suc (start .args .self .silences)) ≡ start .args .self .silences + 1 = omega arith in (rw e (c .bare .ensures .0), c .bare .ensures .1 (omega arith))
 
 returns-2 : tie.Need-returns-2
 unfolding silenced statusOf rowOf
 returns-2 c =
     let start = c .before .before .before in
-    let e : min 20 (suc (start .args .self .silences)) ≡ 20 = omega arith in rw e (c .bare2 .ensures)
+    let e : min 20 (suc (start .args .self .silences)) ≡ 20 = omega arith in (rw e (c .bare2 .ensures .0), c .bare2 .ensures .1 (omega arith))
 
 pub silenced-spec : {M : Type 1} → statement M
 silenced-spec =

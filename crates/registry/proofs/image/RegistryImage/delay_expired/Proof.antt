@@ -48,7 +48,7 @@ finish-requires c κs =
     let at-if2 = at-write-asks .before .before .before .before in
     let at-if1 = at-if2 .before .before .before in
     let start = at-if1 .before .before .before in
-    let p = viewOf (start .args .self) in end-room p (delayEnds p) (delays p (start .args .pass) (at-if1 .if1 .left) (ap not (ne-eqb _ _ (at-if2 .if2 .left)))) (delay-front p) (λ i. record { state = p .state; pass = p .pass; size = p .size; delay = false; rows = at-all-changed .all-changed .ensures i }) (start .args .out .now) (wrote-along (ap (λ (n : ℕ). encodeAll n (asks isSilent 1 (p .rows))) (at-if1 .if1 .left)) (at-write-asks .write-asks .ensures)) (start .pre)
+    let p = viewOf (start .args .self) in end-room p (delayEnds p) (delays p (start .args .pass) (at-if1 .if1 .left) (ap not (ne-eqb _ _ (at-if2 .if2 .left)))) (delay-front p) (λ i. record { state = p .state; pass = p .pass; size = p .size; delay = false; rows = at-all-changed .all-changed .ensures .0 i }) (start .args .out .now) (wrote-along (ap (λ (n : ℕ). encodeAll n (asks isSilent 1 (p .rows))) (at-if1 .if1 .left)) (at-write-asks .write-asks .ensures)) (start .pre)
 
 returns-3 : tie.Need-returns-3
 unfolding viewOf runs delayEnds
@@ -59,7 +59,8 @@ returns-3 c =
     let at-if2 = at-write-asks .before .before .before .before in
     let at-if1 = at-if2 .before .before .before in
     let start = at-if1 .before .before .before in
-    let p = viewOf (start .args .self) in done p (delayEnds p) (delays p (start .args .pass) (at-if1 .if1 .left) (ap not (ne-eqb _ _ (at-if2 .if2 .left)))) (delay-front p) (λ i. record { state = p .state; pass = p .pass; size = p .size; delay = false; rows = at-all-changed .all-changed .ensures i }) (start .args .out .now) (wrote-along (ap (λ (n : ℕ). encodeAll n (asks isSilent 1 (p .rows))) (at-if1 .if1 .left)) (at-write-asks .write-asks .ensures)) (at-finish .finish .ensures)
+    let p = viewOf (start .args .self) in done p (delayEnds p) (delays p (start .args .pass) (at-if1 .if1 .left) (ap not (ne-eqb _ _ (at-if2 .if2 .left)))) (delay-front p) (λ i. record { state = p .state; pass = p .pass; size = p .size; delay = false; rows = at-all-changed .all-changed .ensures .0 i }) (start .args .out .now) (wrote-along (ap (λ (n : ℕ). encodeAll n (asks isSilent 1 (p .rows))) (at-if1 .if1 .left)) (at-write-asks .write-asks .ensures)) (at-finish .finish .ensures .0)
+    (λ m. at-finish .finish .ensures .1 (record { state = m .state; delay = omega arith; units = m .units; entries = at-all-changed .all-changed .ensures .1 (m .entries) }))
 
 pub delay-expired-spec : {M : Type 1} → statement M
 delay-expired-spec =

@@ -1,4 +1,5 @@
 -- The tests in their order.
+use Rattle.laws.specs.Alls.{all-at}
 use Rattle.rules.specs.House.{maxUnits}
 use Rattle.row_entry.proofs.Arrays.{rows-length}
 use Rattle.registry.proofs.Places.{mapped-length, row-beyond, row-there, row-zero}
@@ -16,7 +17,7 @@ unfolding viewOf
 returns c =
     let at-if1 = c .before in
     let start = at-if1 .before .before in
-    c .absent .ensures ∙ row-zero (viewOf (start .args .t1) .rows) (at-if1 .if1 .taken)
+    (c .absent .ensures .0 ∙ row-zero (viewOf (start .args .t1) .rows) (at-if1 .if1 .taken), λ m. c .absent .ensures .1)
 
 returns-2 : tie.Need-returns-2
 unfolding viewOf
@@ -24,7 +25,8 @@ returns-2 c =
     let at-if2 = c .before in
     let at-clamp = at-if2 .before in
     let start = at-clamp .before .before .before in
-    let g = start .good .0 .1 .1 .1 .1 .1 .1 .1 .0 in let m : length (start .args .t1 .entries) ≡ maxUnits = search (mapped-length, g) in c .absent2 .ensures ∙ row-beyond (viewOf (start .args .t1) .rows) (start .args .position .0) (omega (arith, at-clamp .clamp .ensures, at-if2 .if2 .taken, rows-length (start .args .t1 .entries) m (start .args .t1 .units)))
+    let g = start .good .0 .1 .1 .1 .1 .1 .1 .1 .0 in let m : length (start .args .t1 .entries) ≡ maxUnits = search (mapped-length, g) in
+    (c .absent2 .ensures .0 ∙ row-beyond (viewOf (start .args .t1) .rows) (start .args .position .0) (omega (arith, at-clamp .clamp .ensures, at-if2 .if2 .taken, rows-length (start .args .t1 .entries) m (start .args .t1 .units))), λ k. c .absent2 .ensures .1)
 
 element-copy-out-result : tie.Need-element-copy-out-result
 element-copy-out-result c =
@@ -38,7 +40,10 @@ returns-3 c =
     let at-clamp = at-if2 .before in
     let at-if1 = at-clamp .before in
     let start = at-if1 .before .before in
-    let g = start .good .0 .1 .1 .1 .1 .1 .1 .1 .0 in let m : length (start .args .t1 .entries) ≡ maxUnits = search (mapped-length, g) in row-there (start .args .t1) (start .args .position .0) (record { full = m; first = pos-of-ne-zero (at-if1 .if1 .left); last = omega (arith, at-clamp .clamp .ensures, at-if2 .if2 .left) }) _
+    let g = start .good .0 .1 .1 .1 .1 .1 .1 .1 .0 in let m : length (start .args .t1 .entries) ≡ maxUnits = search (mapped-length, g) in (
+      row-there (start .args .t1) (start .args .position .0) (record { full = m; first = pos-of-ne-zero (at-if1 .if1 .left); last = omega (arith, at-clamp .clamp .ensures, at-if2 .if2 .left) }) _,
+      λ k. all-at _ _ (omega (arith, m, at-clamp .clamp .ensures, at-if2 .if2 .left, at-if1 .if1 .left)) (k .entries),
+    )
 
 pub entry-at-spec : {M : Type 1} → statement M
 entry-at-spec =

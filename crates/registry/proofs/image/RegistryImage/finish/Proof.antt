@@ -26,8 +26,10 @@ returns c =
     let at-outlook-of = at-close .before .before .before .before in
     let s = at-outlook-of .before .before .before .before .args .self in
     let seen = at-outlook-of .outlook-of .ensures in
-    let closes = at-close .close .ensures in
-    ends (viewOf s) (seen .0) (seen .1) (seen .2) _ (end-picture (viewOf s) (seen .0) (seen .1) (seen .2) (closes .state) (closes .delay)) closes
+    let closes = at-close .close .ensures .0 in (
+      ends (viewOf s) (seen .0) (seen .1) (seen .2) _ (end-picture (viewOf s) (seen .0) (seen .1) (seen .2) (closes .state) (closes .delay)) closes,
+      λ m. record { state = at-close .close .ensures .1 (m .state); delay = at-close .close .ensures .2 (m .delay); units = m .units; entries = m .entries },
+    )
 
 pub finish-spec : {M : Type 1} → statement M
 finish-spec =

@@ -13,7 +13,7 @@ unfolding makeAnswer fresh legalSize
 returns c =
     let at-if1 = c .before in
     let start = at-if1 .before in
-    let e : viewOf (c .stopped .result) ≡ fresh (start .args .l) = simp (lt-leb _ _ (at-if1 .if1 .taken)) (c .stopped .ensures) in (simp (lt-leb _ _ (at-if1 .if1 .taken)) refl, e, handed-fresh _ (start .args .l) e)
+    let e : viewOf (c .stopped .result) ≡ fresh (start .args .l) = simp (lt-leb _ _ (at-if1 .if1 .taken)) (c .stopped .ensures .0) in (simp (lt-leb _ _ (at-if1 .if1 .taken)) refl, e, handed-fresh _ (start .args .l) e (c .stopped .ensures .1))
 
 returns-2 : tie.Need-returns-2
 unfolding makeAnswer fresh legalSize
@@ -21,7 +21,7 @@ returns-2 c =
     let at-if2 = c .before in
     let at-if1 = at-if2 .before in
     let start = at-if1 .before in
-    let e : viewOf (c .stopped2 .result) ≡ fresh (start .args .l) = simp (le-leb _ _ (at-if1 .if1 .left), lt-leb _ _ (at-if2 .if2 .taken)) (c .stopped2 .ensures) in (simp (le-leb _ _ (at-if1 .if1 .left), lt-leb _ _ (at-if2 .if2 .taken)) refl, e, handed-fresh _ (start .args .l) e)
+    let e : viewOf (c .stopped2 .result) ≡ fresh (start .args .l) = simp (le-leb _ _ (at-if1 .if1 .left), lt-leb _ _ (at-if2 .if2 .taken)) (c .stopped2 .ensures .0) in (simp (le-leb _ _ (at-if1 .if1 .left), lt-leb _ _ (at-if2 .if2 .taken)) refl, e, handed-fresh _ (start .args .l) e (c .stopped2 .ensures .1))
 
 returns-3 : tie.Need-returns-3
 unfolding makeAnswer fresh legalSize
@@ -29,7 +29,7 @@ returns-3 c =
     let at-if2 = c .before in
     let at-if1 = at-if2 .before in
     let start = at-if1 .before in
-    let e : viewOf (c .stopped3 .result) ≡ fresh (start .args .l) = simp (le-leb _ _ (at-if1 .if1 .left), le-leb _ _ (at-if2 .if2 .left)) (c .stopped3 .ensures) in (simp (le-leb _ _ (at-if1 .if1 .left), le-leb _ _ (at-if2 .if2 .left)) refl, e, handed-fresh _ (start .args .l) e)
+    let e : viewOf (c .stopped3 .result) ≡ fresh (start .args .l) = simp (le-leb _ _ (at-if1 .if1 .left), le-leb _ _ (at-if2 .if2 .left)) (c .stopped3 .ensures .0) in (simp (le-leb _ _ (at-if1 .if1 .left), le-leb _ _ (at-if2 .if2 .left)) refl, e, handed-fresh _ (start .args .l) e (c .stopped3 .ensures .1))
 
 pub fresh-spec : {M : Type 1} → statement M
 fresh-spec =

@@ -32,7 +32,7 @@ rowsAfter w = let args = startOf w .args in
 module _ (w : tie.After-all-counted) where
   counted-rows : rowsOf (image w .units) (w .all-counted .result) ≡ rowsAfter w
   unfolding viewOf
-  counted-rows = counted-at (image w) (startOf w .args .position .0) (startOf w .pre .0) _ _ (w .all-counted .ensures)
+  counted-rows = counted-at (image w) (startOf w .args .position .0) (startOf w .pre .0) _ _ (w .all-counted .ensures .0)
 
   told-all : told (viewOf (image w)) (withRows (rowsAfter w) (viewOf (image w))) ++ []
       ≡ rowsTold (stateOf (image w .state .0)) (image w .size) (viewOf (image w) .rows) (rowsOf (image w .units) (w .all-counted .result))
@@ -71,7 +71,8 @@ returns c =
     let at-tell-entries = at-finish .before .before .before .before in
     let w = at-tell-entries .before .before .before in
     let start = startOf w in
-    done (viewOf (image w)) (changeRows (rowsAfter w) (viewOf (image w))) refl (told-all w) (left w) (start .args .out .now) (at-tell-entries .tell-entries .ensures) (at-finish .finish .ensures)
+    done (viewOf (image w)) (changeRows (rowsAfter w) (viewOf (image w))) refl (told-all w) (left w) (start .args .out .now) (at-tell-entries .tell-entries .ensures) (at-finish .finish .ensures .0)
+    (λ m. at-finish .finish .ensures .1 (record { state = m .state; delay = m .delay; units = m .units; entries = w .all-counted .ensures .1 (m .entries) }))
 
 pub ignore-spec : {M : Type 1} → statement M
 ignore-spec =

@@ -35,7 +35,7 @@ scan-requires c κs =
     let at-write-notice = at-new-entries .before .before .before in
     let at-if1 = at-write-notice .before .before .before in
     let start = at-if1 .before .before .before in
-    let p = viewOf (start .args .self) in (at-if1 .if1 .left, second-room p (NOTOK ∷ []) (replicate (start .args .nodes - 1) newRow) (rescans p (start .args .nodes) (at-if1 .if1 .left)) (λ i. record { state = p .state; pass = p .pass; size = p .size; delay = p .delay; rows = at-new-entries .new-entries .ensures (start .args .nodes - 1) (omega (arith, start .pre .1)) i }) (start .args .out .now) (notok-wrote (start .args .self .pass) (add-one (start .args .self .pass)) (at-write-notice .write-notice .ensures)) (start .pre .2))
+    let p = viewOf (start .args .self) in (at-if1 .if1 .left, second-room p (NOTOK ∷ []) (replicate (start .args .nodes - 1) newRow) (rescans p (start .args .nodes) (at-if1 .if1 .left)) (λ i. record { state = p .state; pass = p .pass; size = p .size; delay = p .delay; rows = at-new-entries .new-entries .ensures .0 (start .args .nodes - 1) (omega (arith, start .pre .1)) i }) (start .args .out .now) (notok-wrote (start .args .self .pass) (add-one (start .args .self .pass)) (at-write-notice .write-notice .ensures)) (start .pre .2))
 
 returns-2 : tie.Need-returns-2
 unfolding viewOf withRows
@@ -45,7 +45,8 @@ returns-2 c =
     let at-write-notice = at-new-entries .before .before .before in
     let at-if1 = at-write-notice .before .before .before in
     let start = at-if1 .before .before .before in
-    let p = viewOf (start .args .self) in begins p (NOTOK ∷ []) (replicate (start .args .nodes - 1) newRow) (rescans p (start .args .nodes) (at-if1 .if1 .left)) (λ i. record { state = p .state; pass = p .pass; size = p .size; delay = p .delay; rows = at-new-entries .new-entries .ensures (start .args .nodes - 1) (omega (arith, start .pre .1)) i }) (start .args .out .now) (notok-wrote (start .args .self .pass) (add-one (start .args .self .pass)) (at-write-notice .write-notice .ensures)) (at-scan .scan .ensures)
+    let p = viewOf (start .args .self) in begins p (NOTOK ∷ []) (replicate (start .args .nodes - 1) newRow) (rescans p (start .args .nodes) (at-if1 .if1 .left)) (λ i. record { state = p .state; pass = p .pass; size = p .size; delay = p .delay; rows = at-new-entries .new-entries .ensures .0 (start .args .nodes - 1) (omega (arith, start .pre .1)) i }) (start .args .out .now) (notok-wrote (start .args .self .pass) (add-one (start .args .self .pass)) (at-write-notice .write-notice .ensures)) (at-scan .scan .ensures .0)
+    (λ m. at-scan .scan .ensures .1 (record { state = m .state; delay = m .delay; units = omega (arith, start .pre .1); entries = at-new-entries .new-entries .ensures .1 }))
 
 pub network-change-spec : {M : Type 1} → statement M
 network-change-spec =

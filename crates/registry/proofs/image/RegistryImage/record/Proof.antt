@@ -149,7 +149,7 @@ hears-at h =
     let r = readFor v in
     let s = image r in
     let t = heard-at v in
-    subst (λ (n : ℕ). Hears (seatAt (rowsOf (s .units) (s .entries)) n) (addressIn v) (announced r) (h .hear .result)) (next-place s (positionIn v) (t .0) (t .1)) (h .hear .ensures)
+    subst (λ (n : ℕ). Hears (seatAt (rowsOf (s .units) (s .entries)) n) (addressIn v) (announced r) (h .hear .result)) (next-place s (positionIn v) (t .0) (t .1)) (h .hear .ensures .0)
 
 returns : tie.Need-returns
 unfolding viewOf
@@ -252,7 +252,7 @@ reply-requires c κs =
     let s = image r in
     let t = heard-at v in
     let whole = t .2 ∙ ap (concluded (viewOf s)) (hears-reply (hears-at at-hear) (positionIn v) (viewOf s) (sym (at-conflicts .conflicts .ensures) ∙ at-if4 .if4 .left)) in
-    (t .0, reached-size (viewOf s) (startOf r .pre .reached), fits-at r whole)
+    (t .0, reached-size (viewOf s) (startOf r .pre .reached), at-hear .hear .ensures .1 (startOf r .pre .marks .entries), fits-at r whole)
 
 reply-requires-2 : tie.Need-reply-requires-2
 unfolding viewOf
@@ -265,9 +265,9 @@ reply-requires-2 c κs =
     let g = at-event .event4 .given in
     let x = g .0 .1 .0 .0 in
     let t = silent-at (k .before) (k .if3 .left) (g .0 .0) (g .0 .1 .0) (g .1) in
-    let own = at-silenced .silenced .ensures ∙ ap silenced (place-row s x (t .0) (t .1) _) in
+    let own = at-silenced .silenced .ensures .0 ∙ ap silenced (place-row s x (t .0) (t .1) _) in
     let whole = t .2 ∙ ap (λ (n : Row). replyOutcome (viewOf s) x 0 n finished) (sym own) in
-    (t .0, reached-size (viewOf s) (startOf r .pre .reached), fits-at r whole)
+    (t .0, reached-size (viewOf s) (startOf r .pre .reached), at-silenced .silenced .ensures .1, fits-at r whole)
 
 delay-expired-requires : tie.Need-delay-expired-requires
 unfolding viewOf respondTo
@@ -337,7 +337,7 @@ returns-10 c =
     let g = at-event .event4 .given in
     let x = g .0 .1 .0 .0 in
     let t = silent-at (k .before) (k .if3 .left) (g .0 .0) (g .0 .1 .0) (g .1) in
-    let own = at-silenced .silenced .ensures ∙ ap silenced (place-row s x (t .0) (t .1) _) in
+    let own = at-silenced .silenced .ensures .0 ∙ ap silenced (place-row s x (t .0) (t .1) _) in
     let whole = t .2 ∙ ap (λ (n : Row). replyOutcome (viewOf s) x 0 n finished) (sym own) in
     recorded-at r whole (at-call .reply2 .ensures)
 

@@ -37,7 +37,7 @@ unfolding viewOf
 left e =
     let w = countedAt e in
     ap (λ (rs : List Row). withRows rs (viewOf (image w)))
-    (e .all-changed .ensures ∙ ap (map emptied) (counted-at (image w) (startOf w .args .position .0) (startOf w .pre .0) _ _ (w .all-counted .ensures)))
+    (e .all-changed .ensures .0 ∙ ap (map emptied) (counted-at (image w) (startOf w .args .position .0) (startOf w .pre .0) _ _ (w .all-counted .ensures .0)))
 
 all-counted-requires : tie.Need-all-counted-requires
 all-counted-requires c κs =
@@ -68,7 +68,8 @@ returns c =
     let w = countedAt e in
     let start = startOf w in
     let at-write-notice = e .before .before .before in
-    begins (viewOf (image w)) (NOTOK ∷ []) (rowsAfter w) refl (left e) (start .args .out .now) (notok-wrote (image w .pass) (add-one (image w .pass)) (at-write-notice .write-notice .ensures)) (at-scan .scan .ensures)
+    begins (viewOf (image w)) (NOTOK ∷ []) (rowsAfter w) refl (left e) (start .args .out .now) (notok-wrote (image w .pass) (add-one (image w .pass)) (at-write-notice .write-notice .ensures)) (at-scan .scan .ensures .0)
+    (λ m. at-scan .scan .ensures .1 (record { state = m .state; delay = m .delay; units = m .units; entries = e .all-changed .ensures .1 (w .all-counted .ensures .1 (m .entries)) }))
 
 pub restart-spec : {M : Type 1} → statement M
 restart-spec =

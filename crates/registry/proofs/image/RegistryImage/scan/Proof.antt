@@ -8,6 +8,7 @@ use borrow.Author.Needs.{needs}
 use mathlib.Core.Bool.{false}
 use mathlib.Core.Path.{refl}
 use native.Mathlib.Numerals.{add-one}
+use native.Mathlib.Omega.{arith}
 use Rattle.registry.proofs.image.RegistryImage.scan.Statement.{statement}
 use Rattle.registry.proofs.image.RegistryImage.scan.Tie as tie
 
@@ -30,7 +31,10 @@ returns c =
     let at-finish = c .before .before in
     let at-write-asks = at-finish .before .before .before .before in
     let start = at-write-asks .before .before .before .before .before .before in
-    let p = viewOf (start .args .self) in scans p _ (add-one (start .args .self .pass)) (λ i. record { state = NotOk; pass = add-one (start .args .self .pass) i; size = start .args .self .size; delay = false; rows = p .rows }) (at-write-asks .write-asks .ensures) refl (at-finish .finish .ensures)
+    let p = viewOf (start .args .self) in (
+      scans p _ (add-one (start .args .self .pass)) (λ i. record { state = NotOk; pass = add-one (start .args .self .pass) i; size = start .args .self .size; delay = false; rows = p .rows }) (at-write-asks .write-asks .ensures) refl (at-finish .finish .ensures .0),
+      λ m. at-finish .finish .ensures .1 (record { state = omega arith; delay = omega arith; units = m .units; entries = m .entries }),
+    )
 
 pub scan-spec : {M : Type 1} → statement M
 scan-spec =

@@ -10,7 +10,7 @@ returns : tie.Need-returns
 unfolding viewOf
 returns c =
     let start = c .before .before in
-    shuts (viewOf (start .args .self)) (start .args .out .now) (c .stopped .ensures) refl refl
+    shuts (viewOf (start .args .self)) (start .args .out .now) (c .stopped .ensures .0) refl refl (λ m. c .stopped .ensures .1)
 
 pub shut-down-spec : {M : Type 1} → statement M
 shut-down-spec =

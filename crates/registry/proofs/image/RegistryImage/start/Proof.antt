@@ -27,7 +27,7 @@ scan-requires c κs =
     let at-new-entries = c .before in
     let at-if1 = at-new-entries .before in
     let start = at-if1 .before .before .before in
-    let p = viewOf (start .args .self) in (at-if1 .if1 .left, second-room p [] (replicate (start .args .nodes - 1) newRow) (starts p (start .args .nodes) (at-if1 .if1 .left)) (λ i. record { state = p .state; pass = p .pass; size = p .size; delay = p .delay; rows = at-new-entries .new-entries .ensures (start .args .nodes - 1) (omega (arith, start .pre .1)) i }) (start .args .out .now) (wrote-nothing (start .args .out .now) 0) (start .pre .2))
+    let p = viewOf (start .args .self) in (at-if1 .if1 .left, second-room p [] (replicate (start .args .nodes - 1) newRow) (starts p (start .args .nodes) (at-if1 .if1 .left)) (λ i. record { state = p .state; pass = p .pass; size = p .size; delay = p .delay; rows = at-new-entries .new-entries .ensures .0 (start .args .nodes - 1) (omega (arith, start .pre .1)) i }) (start .args .out .now) (wrote-nothing (start .args .out .now) 0) (start .pre .2))
 
 returns-2 : tie.Need-returns-2
 unfolding viewOf withRows encodeAll collect
@@ -36,7 +36,8 @@ returns-2 c =
     let at-new-entries = at-scan .before .before in
     let at-if1 = at-new-entries .before in
     let start = at-if1 .before .before .before in
-    let p = viewOf (start .args .self) in begins p [] (replicate (start .args .nodes - 1) newRow) (starts p (start .args .nodes) (at-if1 .if1 .left)) (λ i. record { state = p .state; pass = p .pass; size = p .size; delay = p .delay; rows = at-new-entries .new-entries .ensures (start .args .nodes - 1) (omega (arith, start .pre .1)) i }) (start .args .out .now) (wrote-nothing (start .args .out .now) 0) (at-scan .scan .ensures)
+    let p = viewOf (start .args .self) in begins p [] (replicate (start .args .nodes - 1) newRow) (starts p (start .args .nodes) (at-if1 .if1 .left)) (λ i. record { state = p .state; pass = p .pass; size = p .size; delay = p .delay; rows = at-new-entries .new-entries .ensures .0 (start .args .nodes - 1) (omega (arith, start .pre .1)) i }) (start .args .out .now) (wrote-nothing (start .args .out .now) 0) (at-scan .scan .ensures .0)
+    (λ m. at-scan .scan .ensures .1 (record { state = m .state; delay = m .delay; units = omega (arith, start .pre .1); entries = at-new-entries .new-entries .ensures .1 }))
 
 pub start-spec : {M : Type 1} → statement M
 start-spec =

@@ -71,7 +71,7 @@ fn offered(line: &[u8], at: usize, record: &mut [u8]) -> Command {
 }
 
 // The command of a line, and a record's bytes in `record`.
-pub fn parse(line: &[u8], record: &mut [u8]) -> Command {
+pub(crate) fn parse(line: &[u8], record: &mut [u8]) -> Command {
     let start = words::word_start(line, 0);
     if line.len() <= start {
         return Command::NotUnderstood(UNKNOWN_WORD);

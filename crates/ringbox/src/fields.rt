@@ -10,7 +10,7 @@ use wire_orders::NEW;
 use wire_orders::SET;
 
 // The third byte of an event or an order is its kind.
-pub fn kind_of(bytes: &[u8]) -> u8 {
+pub(crate) fn kind_of(bytes: &[u8]) -> u8 {
     if bytes.len() < 3 {
         return 0;
     }
@@ -71,7 +71,7 @@ fn widened(width: usize, gap: bool) -> usize
 }
 
 // An event has more characters than these.
-pub fn wider(bytes: &[u8], most: usize) -> bool {
+pub(crate) fn wider(bytes: &[u8], most: usize) -> bool {
     let kind = kind_of(bytes);
     let mut width = 0;
     let mut i = 0;
@@ -86,7 +86,7 @@ pub fn wider(bytes: &[u8], most: usize) -> bool {
 }
 
 // The bytes of an event, or of an order.
-pub fn spaced(output: Output, text: &mut [u8; SPACE], bytes: &[u8], order: bool) -> Output {
+pub(crate) fn spaced(output: Output, text: &mut [u8; SPACE], bytes: &[u8], order: bool) -> Output {
     let kind = kind_of(bytes);
     let mut next = output;
     let mut i = 0;

@@ -2,7 +2,7 @@
 use libc::STDOUT_FILENO;
 
 // The commands.
-pub fn write() {
+pub(crate) fn write() {
     io::write_all(
         STDOUT_FILENO,
         b"ringbox: plays NetworkMaster to a MOST ring from a bench script on standard input.

@@ -66,7 +66,7 @@ fn order_end(bytes: &[u8], at: usize) -> usize
 }
 
 // A block and a number behind a blank, as 22.01.
-pub fn pair(output: Output, text: &mut [u8; SPACE], block: u8, number: u8) -> Output {
+pub(crate) fn pair(output: Output, text: &mut [u8; SPACE], block: u8, number: u8) -> Output {
     let values = [block as usize, number as usize];
     output.form(text, b" %b.%b", &values)
 }
@@ -147,7 +147,7 @@ fn line(output: Output, text: &mut [u8; SPACE], bytes: &[u8]) -> Output {
 }
 
 // A line for each of the orders.
-pub fn lines(output: Output, text: &mut [u8; SPACE], bytes: &[u8]) -> Output {
+pub(crate) fn lines(output: Output, text: &mut [u8; SPACE], bytes: &[u8]) -> Output {
     let mut next = output;
     let mut at = 0;
     while at < bytes.len() {

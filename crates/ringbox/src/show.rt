@@ -27,7 +27,7 @@ fn state_name(output: Output, text: &mut [u8; SPACE], state: u8) -> Output {
 }
 
 // The state on one line.
-pub fn state(output: Output, text: &mut [u8; SPACE], picture: RegistryImage) -> Output {
+pub(crate) fn state(output: Output, text: &mut [u8; SPACE], picture: RegistryImage) -> Output {
     let state = picture.current_state();
     let named = state_name(output, text, state.0);
     let values = [
@@ -61,7 +61,7 @@ fn listed(
 }
 
 // The listing, an entry on each line.
-pub fn listing(output: Output, text: &mut [u8; SPACE], listing: Listing) -> Output {
+pub(crate) fn listing(output: Output, text: &mut [u8; SPACE], listing: Listing) -> Output {
     let values = [listing.count];
     let mut next = output.form(text, b"= listing %d\n", &values);
     let mut i = 0;
@@ -83,7 +83,7 @@ pub fn listing(output: Output, text: &mut [u8; SPACE], listing: Listing) -> Outp
 }
 
 // Where a pair is listed, or the refusal.
-pub fn found(output: Output, text: &mut [u8; SPACE], found: Lookup) -> Output {
+pub(crate) fn found(output: Output, text: &mut [u8; SPACE], found: Lookup) -> Output {
     let number = found.number();
     if number != DONE {
         return text_answers::refusal(output, text, Asked::LookUp, number);
@@ -137,7 +137,7 @@ fn row(output: Output, text: &mut [u8; SPACE], position: u8, entry: NodeEntry) -
 }
 
 // The rows, each on a line.
-pub fn rows(output: Output, text: &mut [u8; SPACE], picture: RegistryImage) -> Output {
+pub(crate) fn rows(output: Output, text: &mut [u8; SPACE], picture: RegistryImage) -> Output {
     let nodes = picture.nodes();
     let mut next = output;
     let mut x: usize = 1;

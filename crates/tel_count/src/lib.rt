@@ -37,7 +37,7 @@ impl CountAnswer {
 }
 
 // How many telegrams a message of n bytes has.
-pub fn count_of(l: usize, n: usize) -> usize
+fn count_of(l: usize, n: usize) -> usize
     requires { ⌜ (minSize ≤ l) × (n ≤ maxPayload) ⌝ }
     ensures { λ r. ⌜ r ≡ countOf l n ⌝ }
 {

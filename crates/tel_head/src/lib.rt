@@ -2,7 +2,7 @@
 ghost use mathlib.Core.Path.{_≡_};
 ghost use mathlib.Core.List.{_++_};
 ghost use Prim.Native.Nat.{_+_, _*_, _/_, _≤_, _<_};
-ghost use lib.ListN.{length, take, drop};
+ghost use lib.ListN.{length, getD, take, drop};
 ghost use lib.Seq.{sets};
 ghost use Rattle.rules.specs.Event.{be4, four};
 ghost use Rattle.rules.specs.Telegram.{headBytes, telIdOf, telLenOf, malformed};
@@ -68,28 +68,37 @@ pub fn write_head(buffer: &mut [u8], msg_id: u32, tel_id: u32, tel_len: u32)
     buffer[5] = wire_octets::low(tel_len);
 }
 
+// The byte at a place, 0 behind the end.
+fn octet(bytes: &[u8], at: usize) -> u8
+    ensures { λ r. ⌜ r ≡ getD (now (bytes .entry)) at 0 ⌝ }
+{
+    if bytes.len() <= at {
+        return 0;
+    }
+    bytes[at]
+}
+
 // The MsgID of a telegram.
 pub fn msg_id(telegram: &[u8]) -> u32
-    requires { ⌜ 6 ≤ length (now telegram) ⌝ }
     ensures { λ r. ⌜ r ≡ be4 (now (telegram .entry)) 0 ⌝ }
 {
-    wire_octets::read4(telegram, 0)
+    let high = wire_octets::word(octet(telegram, 0), octet(telegram, 1));
+    let low = wire_octets::word(octet(telegram, 2), octet(telegram, 3));
+    high << 16 | low
 }
 
 // The TelID of a telegram.
 pub fn tel_id(telegram: &[u8]) -> u32
-    requires { ⌜ 6 ≤ length (now telegram) ⌝ }
     ensures { λ r. ⌜ r ≡ telIdOf (now (telegram .entry)) ⌝ }
 {
-    (telegram[4] >> 4) as u32
+    (octet(telegram, 4) >> 4) as u32
 }
 
 // The TelLen of a telegram.
 fn tel_len(telegram: &[u8]) -> usize
-    requires { ⌜ 6 ≤ length (now telegram) ⌝ }
     ensures { λ r. ⌜ (r ≡ telLenOf (now (telegram .entry))) × (r < 4096) ⌝ }
 {
-    wire_octets::word(telegram[4] & 0x0F, telegram[5]) as usize
+    wire_octets::word(octet(telegram, 4) & 0x0F, octet(telegram, 5)) as usize
 }
 
 // The telegram is too short, its TelLen wrong or above L, or its counter byte missing.

@@ -1,21 +1,30 @@
 -- A message on its way: what is still to be joined gives the whole message.
 use Prim.Native.Nat.{ℕ, suc, _+_, _-_, _<_, _≤_}
-use mathlib.Core.Path.{_≡_, sym, ap, _∙_, subst}
+use mathlib.Core.Path.{_≡_, refl, sym, ap, _∙_, subst}
 use mathlib.Core.Bool.{true}
 use mathlib.Core.List.{List, [], _∷_, _++_, map}
 use native.Mathlib.Omega.{arith}
 use native.Mathlib.Numerals.{add-one}
+use borrow.Author.Tests.{le-ltb}
 use lib.ListN.{length, drop, replicate}
 use Rattle.laws.specs.Lists.{upFrom}
 use Rattle.rules.specs.House.{maxPass, maxPayload}
 use Rattle.rules.specs.Picture.{legalSize}
-use Rattle.rules.specs.Telegram.{countOf, telegramOf, telegrams, join, joinAll, idle, stillOpen, complete}
+use Rattle.rules.specs.Telegram.{count, countOf, telegramOf, telegrams, join, joinAll, idle, stillOpen, complete}
 use Rattle.rules.proofs.RoundTrip.{roundTrip}
 use Rattle.rules.specs.Telegram as rules
+use Rattle.tel_count.specs.declared.CountAnswer.{CountAnswer}
+use Rattle.tel_count.specs.Answers.{countAnswer, countValueOf}
 use Rattle.tel_join_state.specs.declared.Joined.{Joined}
 use Rattle.tel_join_state.specs.declared.Reassembly.{Reassembly}
 use Rattle.tel_join_state.specs.Answers.{joinAnswer, joiningOf, Joins}
 use Rattle.tel_join_state.specs.declared.JoinAnswer.the-variants as joins
+
+-- how many telegrams, where none of the refusals applies
+pub counted : (l : ℕ) (payload : List ℕ) {a : CountAnswer} {k : ℕ} → legalSize l ≡ true → length payload ≤ maxPayload
+    → a ≡ countAnswer (count l payload) → k ≡ countValueOf a → k ≡ countOf l (length payload)
+unfolding count
+counted l payload legal short e f = f ∙ ap countValueOf e ∙ simp (legal, le-ltb _ _ short) refl
 
 module _ (l m : ℕ) (payload lent : List ℕ) where
   -- the telegrams k to the count, of which `more` stand behind the first

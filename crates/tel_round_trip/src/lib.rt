@@ -55,7 +55,7 @@ pub fn cut_and_join(l: usize, msg_id: u32, payload: &[u8], buffer: &mut [u8]) ->
     if buffer.len() < MAX_PAYLOAD {
         return JoinAnswer::Refused(ROOM_TOO_SHORT);
     }
-    let count = tel_count::count_of(l, n);
+    let count = tel_count::count(l, payload).telegrams();
     let mut state = Reassembly::fresh();
     let mut number = 1;
     while number < count {

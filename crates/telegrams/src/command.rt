@@ -124,7 +124,7 @@ fn join(line: &[u8], at: usize, bytes: &mut [u8]) -> Command {
 }
 
 // The command of a line, and the bytes that it names in `bytes`.
-pub fn parse(line: &[u8], bytes: &mut [u8]) -> Command {
+pub(crate) fn parse(line: &[u8], bytes: &mut [u8]) -> Command {
     let start = words::word_start(line, 0);
     if line.len() <= start {
         return Command::NotUnderstood(UNKNOWN_WORD);

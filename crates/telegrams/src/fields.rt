@@ -16,7 +16,7 @@ fn gap(n: usize) -> bool {
 }
 
 // How many characters a telegram of n bytes has; more bytes than a line has characters count as that many.
-pub fn width(n: usize) -> usize
+pub(crate) fn width(n: usize) -> usize
     ensures { λ r. ⌜ r ≤ 32770 ⌝ }
 {
     if MAX_LINE < n {
@@ -32,7 +32,7 @@ pub fn width(n: usize) -> usize
 }
 
 // A telegram's bytes.
-pub fn telegram(output: Output, text: &mut [u8; SPACE], bytes: &[u8]) -> Output {
+pub(crate) fn telegram(output: Output, text: &mut [u8; SPACE], bytes: &[u8]) -> Output {
     let mut next = output;
     let mut i = 0;
     while i < bytes.len() {
@@ -57,7 +57,7 @@ fn line_end(at: usize, all: usize) -> usize
 }
 
 // A message's bytes, 32 on a line.
-pub fn message(output: Output, text: &mut [u8; SPACE], bytes: &[u8]) -> Output {
+pub(crate) fn message(output: Output, text: &mut [u8; SPACE], bytes: &[u8]) -> Output {
     let mut next = output;
     let mut at = 0;
     while at < bytes.len() {

@@ -2,7 +2,7 @@
 use libc::STDOUT_FILENO;
 
 // The commands.
-pub fn write() {
+pub(crate) fn write() {
     io::write_all(
         STDOUT_FILENO,
         b"telegrams: cuts and joins messages from a bench script on standard input.

@@ -2,7 +2,6 @@
 use native.Mathlib.Omega.{arith}
 use borrow.Author.Needs.{needs}
 use lib.Bits.{and-mask}
-use lib.ListN.{getD}
 use Rattle.rules.specs.Telegram.{telLenOf}
 use Rattle.tel_head.proofs.tel_len.Statement.{statement}
 use Rattle.tel_head.proofs.tel_len.Tie as tie
@@ -10,9 +9,9 @@ use Rattle.tel_head.proofs.tel_len.Tie as tie
 returns : tie.Need-returns
 unfolding telLenOf
 returns c =
-    let at-shared-slice-known3 = c .before in
-    let start = at-shared-slice-known3 .before .before .before in
-    let m = and-mask (getD (start .args .telegram .now) 4 0) 4 in (omega arith, omega (arith, at-shared-slice-known3 .shared-slice-known3 .given 5))
+    let at-octet2 = c .before in
+    let at-octet = at-octet2 .before in
+    let m = and-mask (at-octet .octet .result) 4 in (omega arith, omega (arith, at-octet2 .octet2 .ok))
 
 pub tel-len-spec : {M : Type 1} → statement M
 tel-len-spec =

@@ -41,12 +41,6 @@ returns-3 c =
     let a = start .args in
     keeps (a .state) (a .buffer .now) 14 refl (simp (legal _ (at-illegal .illegal .ensures) (at-if1 .if1 .left), le-ltb _ _ (at-if2 .if2 .left), sym (at-malformed .malformed .ensures) ∙ at-if3 .if3 .taken)) (c .refused3 .ensures)
 
-tel-id-requires : tie.Need-tel-id-requires
-tel-id-requires c κs =
-    let at-malformed = c .before in
-    let start = at-malformed .before .before .before .before .before .before in
-    has-head (start .args .l) (start .args .telegram .now) (sym (at-malformed .malformed .ensures) ∙ c .if3 .left)
-
 returns-4 : tie.Need-returns-4
 unfolding join
 returns-4 c =
@@ -93,4 +87,4 @@ pub join-spec : {M : Type 1} → statement M
 join-spec =
     tie.close
     (tie.spec (search needs) (search needs) returns (search needs) returns-2 (search needs) (search needs) returns-3
-    tel-id-requires (search needs) returns-4 take-requires (search needs) returns-5)
+    (search needs) (search needs) returns-4 take-requires (search needs) returns-5)

@@ -47,7 +47,7 @@ pub(crate) fn write_change(
 }
 
 // INVALID or NEW for the first `count` entries: the pairs that an entry no longer keeps, or newly keeps, entries separately.
-pub fn write_changes(
+pub(crate) fn write_changes(
     out: &mut [u8],
     at: usize,
     pass: u32,

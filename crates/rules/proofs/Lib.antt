@@ -13,6 +13,8 @@ pub mod Sizes
 pub mod Off
 pub mod Records
 pub mod Values
+pub mod States
+pub mod Free
 pub mod Aimed
 pub mod Barring
 pub mod RoundTrip

@@ -1,15 +1,17 @@
 -- What the rules promise, as types that quote the demands; proofs/ has a proof of each.
 use Prim.Native.Nat.{ℕ, suc, _+_, _-_, _*_, _<_, _≤_}
 use mathlib.Core.Path.{_≡_}
-use mathlib.Core.Bool.{Bool, true, false, cond}
+use mathlib.Core.Bool.{Bool, true, false, cond, not, _||_}
 use mathlib.Core.List.{List, [], _∷_, _++_}
 use mathlib.Core.Logic.{_≢_}
 use mathlib.Core.Option.{Option, none, some}
 use lib.Dec.{eqb}
 use lib.ListN.{length, getD, take, drop, replicate}
-use Rattle.rules.specs.Picture.{Off, NotOk, Ok, nodesIn, Row, Pair, Picture, holds, pairsIn, keeps, bars, rowAt, openAt, fresh}
+use Rattle.rules.specs.Picture.{Off, NotOk, Ok, nodesIn, Row, Pair, Picture, holds, pairsIn, keeps, bars, rowAt, openAt, fresh, seatAt, others}
 use Rattle.rules.specs.Event.{Event, START, NCE, SHUTDOWN, ANSWER, NONE, DELAY, decode, encodeEvent, goodNodes, badBlock}
 use Rattle.rules.specs.House.{minNumber, maxNumber, maxPairs, maxPass}
+use Rattle.rules.specs.Renumber.{freeNumber}
+use Rattle.rules.specs.Step.{takes}
 use Rattle.rules.specs.Order.{encodeAll, Order, ASK, SET, OK, NOTOK, NEW, INVALID, WAIT-SHORT, WAIT-LONG, encode}
 use Rattle.rules.specs.Run.{Outcome, refused, taken, Record, offered, next, after, history, Sent, sentBy, written, lent, resultOf}
 use Rattle.rules.specs.Telegram.{uncounted, countNumber, countValue, uncut, cutNumber, cutBytes, cutLength, unjoined, joinNumber, joinMsgId, joinLength}
@@ -187,8 +189,20 @@ pub record Carried (p : Picture) (r : Record) : Type 0 where
   pub pass : All (λ (s : Sent). s .pass ≡ next p r .pass) (sentBy (offered p r))
   pub bytes : written (offered p r) ≡ collect (λ (s : Sent). encode (s .pass) (s .order)) (sentBy (offered p r))
 
+-- a number that is used with a block: a pair of the other rows has it, or one of this answer
+abbrev pub isUsed : (elsewhere announced : List Pair) → (block number : ℕ) → Bool
+isUsed elsewhere announced b n = holds elsewhere (record { block = b; number = n }) || holds announced (record { block = b; number = n })
+
+-- "Free number: the least of 01 to FE that no other row keeps for that block and that stands with that block nowhere in this answer."
+pub record FreeNumber (elsewhere announced : List Pair) (b : ℕ) : Type 0 where
+  pub least : (n : ℕ) → freeNumber elsewhere announced b ≡ some n
+      → (0x01 ≤ n) × (n ≤ 0xFE) × (isUsed elsewhere announced b n ≡ false) × ((m : ℕ) → 0x01 ≤ m → m < n → isUsed elsewhere announced b m ≡ true)
+  pub noneLeft : freeNumber elsewhere announced b ≡ none → (m : ℕ) → 0x01 ≤ m → m ≤ 0xFE → isUsed elsewhere announced b m ≡ true
+  pub allUsed : ((m : ℕ) → 0x01 ≤ m → m ≤ 0xFE → isUsed elsewhere announced b m ≡ true) → freeNumber elsewhere announced b ≡ none
+
 -- A SET answers the announcement at hand: it goes to the position and the address that announced in this record and this pass, names
--- one of the announced pairs, and offers a number from 01 to FE that stands nowhere in the announcement and that no row keeps.
+-- one of the announced pairs, and offers a number from 01 to FE that stands nowhere in the announcement and that no row keeps: the
+-- least one, with every smaller number in the announcement or kept by a row of another position.
 pub record SetAimed (e : Option Event) (q : Picture) (position address block old new : ℕ) : Type 0 where
   pub announced : List Pair
   pub answers : e ≡ some (ANSWER (q .pass) position address announced)
@@ -198,6 +212,7 @@ pub record SetAimed (e : Option Event) (q : Picture) (position address block old
   pub high : new ≤ maxNumber
   pub unannounced : holds announced (record { block = block; number = new }) ≡ false
   pub unlisted : (x : ℕ) → holds (pairsIn (rowAt (q .rows) x)) (record { block = block; number = new }) ≡ false
+  pub least : (m : ℕ) → minNumber ≤ m → m < new → isUsed (collect pairsIn (others (seatAt (q .rows) position))) announced block m ≡ true
 
 abbrev pub Aimed : Option Event → Picture → Order → Type 0
 Aimed e q (ASK x) = Unit {0}
@@ -259,3 +274,13 @@ pub record Values : Type 0 where
   pub nodesOff : (rows : List Row) → nodesIn Off rows ≡ 0
   pub nodesNotOk : (rows : List Row) → nodesIn NotOk rows ≡ suc (length rows)
   pub nodesOk : (rows : List Row) → nodesIn Ok rows ≡ suc (length rows)
+
+-- "A small table fixes which record kinds are taken in which ring state: OFF takes START; NOTOK and OK take all others". The kind is
+-- the third byte of a record, and START is kind 1.
+abbrev pub kindByte : Event → ℕ
+kindByte e = getD (encodeEvent e) 2 0
+
+pub record StatesByKinds (e : Event) : Type 0 where
+  pub off : takes Off e ≡ eqb (kindByte e) 1
+  pub notOk : takes NotOk e ≡ not (eqb (kindByte e) 1)
+  pub ok : takes Ok e ≡ not (eqb (kindByte e) 1)

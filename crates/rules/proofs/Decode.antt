@@ -16,11 +16,11 @@ use Rattle.rules.specs.Event.{Event, START, NCE, SHUTDOWN, ANSWER, NONE,
 use Rattle.rules.specs.Claims.{Writable, Decodes}
 use Rattle.rules.proofs.Sound.{Formed}
 
-abbrev Granted : (Event → Type 0) → Option Event → Type 0
+abbrev pub Granted : (Event → Type 0) → Option Event → Type 0
 Granted P none = Unit {0}
 Granted P (some e) = P e
 
-granted-check : (P : Event → Type 0) (b : Bool) (e : Event) → (b ≡ true → P e) → Granted P (check b e)
+pub granted-check : (P : Event → Type 0) (b : Bool) (e : Event) → (b ≡ true → P e) → Granted P (check b e)
 unfolding check
 granted-check P true e f = f refl
 granted-check P false e f = tt

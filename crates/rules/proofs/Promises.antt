@@ -16,6 +16,7 @@ use Rattle.rules.proofs.Aimed.{setsAimed}
 use Rattle.rules.proofs.Barring.{unbarred}
 use Rattle.rules.proofs.Off.{emptyInOff}
 use Rattle.rules.proofs.Decode.{decodes}
+use Rattle.rules.proofs.Backwards.{decodesOnly}
 use Rattle.rules.proofs.States.{statesByKinds}
 use Rattle.rules.proofs.Values.{values}
 use Rattle.rules.proofs.RoundTrip.{roundTrip, cuts, lengths}
@@ -41,6 +42,7 @@ promises =
       values = values;
       decodes = decodes;
       statesByKinds = statesByKinds;
+      decodesOnly = decodesOnly;
       roundTrip = λ size msgId payload s lent l h m n b. roundTrip size msgId payload s lent (legal size l h) (omega arith) n b;
       cuts = λ size msgId payload l h n. cuts size msgId payload (legal size l h) n;
       lengths = λ size msgId payload l h. lengths size msgId payload (legal size l h);

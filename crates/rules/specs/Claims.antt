@@ -164,6 +164,11 @@ Writable (DELAY c) = c ≤ maxPass
 pub record Decodes (e : Event) : Type 0 where
   pub decodes : Writable e → decode (encodeEvent e) ≡ some e
 
+-- And backwards: bytes that decode to an event are the bytes of that event. So a record is malformed, number 2, exactly where it is
+-- the bytes of no such event.
+pub record DecodesOnly (b : List ℕ) : Type 0 where
+  pub only : All (λ (x : ℕ). x < 256) b → (e : Event) → decode b ≡ some e → (b ≡ encodeEvent e) × Writable e
+
 -- After every record of every list: "pass would exceed 4,294,967,295" never happens, and the sizes are the paper's.
 pub record Bounds (l : ℕ) (rs : List Record) : Type 0 where
   pub pass : (k : ℕ) → k ≤ length rs → pictureAt l rs k .pass ≤ 4_294_967_295

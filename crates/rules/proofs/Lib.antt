@@ -15,6 +15,7 @@ pub mod Off
 pub mod Records
 pub mod Values
 pub mod States
+pub mod Numbers
 pub mod Free
 pub mod Aimed
 pub mod Barring

@@ -19,6 +19,7 @@ use Rattle.rules.proofs.Decode.{decodes}
 use Rattle.rules.proofs.Backwards.{decodesOnly}
 use Rattle.rules.proofs.States.{statesByKinds}
 use Rattle.rules.proofs.Values.{values}
+use Rattle.rules.proofs.Numbers.{numbers}
 use Rattle.rules.proofs.RoundTrip.{roundTrip, cuts, lengths}
 use Rattle.rules.proofs.Edges.{edgesHold, casesHold}
 use Rattle.rules.proofs.Tight.{longestWay}
@@ -40,6 +41,7 @@ promises =
       setsAimed = setsAimed;
       freeNumber = freeNumbers;
       values = values;
+      numbers = numbers;
       decodes = decodes;
       statesByKinds = statesByKinds;
       decodesOnly = decodesOnly;

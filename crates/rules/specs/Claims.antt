@@ -7,18 +7,18 @@ use mathlib.Core.Logic.{_≢_}
 use mathlib.Core.Option.{Option, none, some}
 use lib.Dec.{eqb}
 use lib.ListN.{length, getD, take, drop, replicate}
-use Rattle.rules.specs.Picture.{Off, NotOk, Ok, nodesIn, Row, Pair, Picture, holds, pairsIn, keeps, bars, rowAt, openAt, fresh, seatAt, others}
+use Rattle.rules.specs.Picture.{Off, NotOk, Ok, nodesIn, Row, Pair, Picture, holds, pairsIn, keeps, bars, rowAt, openAt, fresh, freshNumber, seatAt, others}
 use Rattle.rules.specs.Event.{Event, START, NCE, SHUTDOWN, ANSWER, NONE, DELAY, decode, encodeEvent, goodNodes, badBlock}
 use Rattle.rules.specs.House.{minNumber, maxNumber, maxPairs, maxPass}
-use Rattle.rules.specs.Renumber.{freeNumber}
+use Rattle.rules.specs.Renumber.{isIn, freeNumber}
 use Rattle.rules.specs.Step.{takes}
 use Rattle.rules.specs.Order.{encodeAll, Order, ASK, SET, OK, NOTOK, NEW, INVALID, WAIT-SHORT, WAIT-LONG, encode}
 use Rattle.rules.specs.Run.{Outcome, refused, taken, Record, offered, next, after, history, Sent, sentBy, written, lent, resultOf}
 use Rattle.rules.specs.Telegram.{uncounted, countNumber, countValue, uncut, cutNumber, cutBytes, cutLength, unjoined, joinNumber, joinMsgId, joinLength}
-use Rattle.rules.specs.Telegram.{telegramOf, telegrams, countOf, count, countIs, cut, cutTo, Joining, idle, stillOpen, complete, joinAll}
+use Rattle.rules.specs.Telegram.{telegramOf, telegrams, countOf, count, countIs, cut, cutTo, Joining, idle, stillOpen, complete, join, joinAll}
 use Rattle.laws.specs.Lists.{any, collect}
 use Rattle.laws.specs.Alls.{All}
-use Rattle.rules.specs.Listing.{listing, listedPositions, found, notFound, lookupNumber, lookupPosition, lookupAddress}
+use Rattle.rules.specs.Listing.{listing, listedPositions, lookUp, found, notFound, lookupNumber, lookupPosition, lookupAddress}
 
 -- the event that a record is taken as; none where it is refused
 unfoldable pub ifTaken : Outcome → Option Event → Option Event
@@ -289,3 +289,37 @@ pub record StatesByKinds (e : Event) : Type 0 where
   pub off : takes Off e ≡ eqb (kindByte e) 1
   pub notOk : takes NotOk e ≡ not (eqb (kindByte e) 1)
   pub ok : takes Ok e ≡ not (eqb (kindByte e) 1)
+
+-- The numbers by what is asked for: a record, a picture, a count, cutting, joining and a look-up.
+abbrev pub recordNumbers : List ℕ
+recordNumbers = 1 ∷ 2 ∷ 3 ∷ 4 ∷ 5 ∷ 6 ∷ 7 ∷ 8 ∷ 9 ∷ []
+
+abbrev pub freshNumbers : List ℕ
+freshNumbers = 10 ∷ []
+
+abbrev pub countNumbers : List ℕ
+countNumbers = 10 ∷ 11 ∷ []
+
+abbrev pub cutNumbers : List ℕ
+cutNumbers = 10 ∷ 11 ∷ 12 ∷ 13 ∷ []
+
+abbrev pub joinNumbers : List ℕ
+joinNumbers = 10 ∷ 13 ∷ 14 ∷ 15 ∷ 16 ∷ []
+
+abbrev pub lookUpNumbers : List ℕ
+lookUpNumbers = 17 ∷ 18 ∷ []
+
+-- Each call gives only its own numbers, and gives each of them: records and look-ups after some list of records from a fresh picture.
+pub record Numbers : Type 0 where
+  pub ofRecord : (p : Picture) (r : Record) (n : ℕ) → offered p r ≡ refused n → isIn recordNumbers n ≡ true
+  pub ofFresh : (l : ℕ) → freshNumber l ≢ 0 → isIn freshNumbers (freshNumber l) ≡ true
+  pub ofCount : (size : ℕ) (payload : List ℕ) (n : ℕ) → count size payload ≡ uncounted n → isIn countNumbers n ≡ true
+  pub ofCut : (size msgId : ℕ) (payload : List ℕ) (k room n : ℕ) → cut size msgId payload k room ≡ uncut n → isIn cutNumbers n ≡ true
+  pub ofJoin : (size : ℕ) (s : Joining) (buffer telegram : List ℕ) (n : ℕ) → join size s buffer telegram .answer ≡ unjoined n → isIn joinNumbers n ≡ true
+  pub ofLookUp : (p : Picture) (a : Pair) (n : ℕ) → lookUp p a ≡ notFound n → isIn lookUpNumbers n ≡ true
+  pub recordGives : All (λ (n : ℕ). (rs : List Record) × (r : Record) × (offered (after (fresh 12) rs) r ≡ refused n)) recordNumbers
+  pub freshGives : All (λ (n : ℕ). (l : ℕ) × (freshNumber l ≡ n)) freshNumbers
+  pub countGives : All (λ (n : ℕ). (size : ℕ) × (payload : List ℕ) × (count size payload ≡ uncounted n)) countNumbers
+  pub cutGives : All (λ (n : ℕ). (size msgId : ℕ) × (payload : List ℕ) × (k room : ℕ) × (cut size msgId payload k room ≡ uncut n)) cutNumbers
+  pub joinGives : All (λ (n : ℕ). (size : ℕ) × (s : Joining) × (buffer telegram : List ℕ) × (join size s buffer telegram .answer ≡ unjoined n)) joinNumbers
+  pub lookUpGives : All (λ (n : ℕ). (rs : List Record) × (a : Pair) × (lookUp (after (fresh 12) rs) a ≡ notFound n)) lookUpNumbers

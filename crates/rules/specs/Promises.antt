@@ -7,7 +7,7 @@ use Rattle.rules.specs.Picture.{Pair, Picture}
 use Rattle.rules.specs.Event.{Event}
 use Rattle.rules.specs.Run.{Record}
 use Rattle.rules.specs.Telegram.{Joining}
-use Rattle.rules.specs.Claims.{Demand3, Bounds, Fits, Refusal, Carried, SetsAimed, Unbarred, EmptyInOff, FreeNumber, Decodes, DecodesOnly, StatesByKinds, Values, RoundTrip, Cuts, Lengths}
+use Rattle.rules.specs.Claims.{Demand3, Bounds, Fits, Refusal, Carried, SetsAimed, Unbarred, EmptyInOff, FreeNumber, Decodes, DecodesOnly, StatesByKinds, Values, Numbers, RoundTrip, Cuts, Lengths}
 use Rattle.rules.specs.Table.{obtained, expected}
 use Rattle.rules.specs.Edges.{edges as edgeTable}
 use Rattle.rules.specs.Cases.{cases as caseTable}
@@ -28,6 +28,7 @@ pub record Promises : Type 0 where
   pub freeNumber : (elsewhere announced : List Pair) (b : ℕ) → FreeNumber elsewhere announced b
   -- of every answer
   pub values : Values
+  pub numbers : Numbers
   -- of every event
   pub decodes : (e : Event) → Decodes e
   pub statesByKinds : (e : Event) → StatesByKinds e

@@ -168,37 +168,37 @@ rescan : Record
 unfolding hex
 rescan = withRoom 8 0x4D45_02_00000000_01
 
-abbrev RecordGives : ℕ → Type 0
-RecordGives n = (rs : List Record) × (r : Record) × (offered (after (fresh minSize) rs) r ≡ refused n)
+abbrev RecordGives : ℕ → ℕ → Type 0
+RecordGives l n = (rs : List Record) × (r : Record) × (offered (after (fresh l) rs) r ≡ refused n)
 
-gives-1 : RecordGives 1
+gives-1 : (l : ℕ) → RecordGives l 1
 unfolding playPicture
-gives-1 = ([], record { bytes = []; room = 0 }, refl)
+gives-1 l = ([], record { bytes = []; room = 0 }, refl)
 
-gives-2 : RecordGives 2
+gives-2 : (l : ℕ) → RecordGives l 2
 unfolding playPicture
-gives-2 = ([], record { bytes = []; room = minRoom }, refl)
+gives-2 l = ([], record { bytes = []; room = minRoom }, refl)
 
-gives-3 : RecordGives 3
+gives-3 : (l : ℕ) → RecordGives l 3
 unfolding playPicture rescan hex
-gives-3 = ([], rescan, refl)
+gives-3 l = ([], rescan, refl)
 
-gives-4 : RecordGives 4
+gives-4 : (l : ℕ) → RecordGives l 4
 unfolding playPicture first hex
-gives-4 = (first ∷ [], first, refl)
+gives-4 l = (first ∷ [], first, refl)
 
 -- in a ring of two: a silence of pass 0, one of position 2, and one of position 1 after its third bad address
-gives-5 : RecordGives 5
+gives-5 : (l : ℕ) → RecordGives l 5
 unfolding playPicture hex
-gives-5 = (withRoom 8 0x4D45_01_00000000_02 ∷ [], withRoom 8 0x4D45_05_00000000_01, refl)
+gives-5 l = (withRoom 8 0x4D45_01_00000000_02 ∷ [], withRoom 8 0x4D45_05_00000000_01, refl)
 
-gives-6 : RecordGives 6
+gives-6 : (l : ℕ) → RecordGives l 6
 unfolding playPicture hex
-gives-6 = (withRoom 8 0x4D45_01_00000000_02 ∷ [], withRoom 8 0x4D45_05_00000001_02, refl)
+gives-6 l = (withRoom 8 0x4D45_01_00000000_02 ∷ [], withRoom 8 0x4D45_05_00000001_02, refl)
 
-gives-7 : RecordGives 7
+gives-7 : (l : ℕ) → RecordGives l 7
 unfolding playPicture hex
-gives-7 = (
+gives-7 l = (
   withRoom 8 0x4D45_01_00000000_02
       ∷ withRoom 11 0x4D45_04_00000001_01_0100_00
       ∷ withRoom 11 0x4D45_04_00000002_01_0100_00
@@ -209,33 +209,34 @@ gives-7 = (
 )
 
 -- the end of a delay that does not run
-gives-8 : RecordGives 8
+gives-8 : (l : ℕ) → RecordGives l 8
 unfolding playPicture first hex
-gives-8 = (first ∷ [], withRoom 8 0x4D45_06_00000001_00, refl)
+gives-8 l = (first ∷ [], withRoom 8 0x4D45_06_00000001_00, refl)
 
 -- a ring of one node that has come to pass k; each rescan brings it to the next, up to the last one
-alone : ℕ → Picture
-alone k = record { state = Ok; pass = k; size = minSize; delay = false; rows = [] }
+module _ (l : ℕ) where
+  alone : ℕ → Picture
+  alone k = record { state = Ok; pass = k; size = fresh l .size; delay = false; rows = [] }
 
-started : (rs : List Record) → after (fresh minSize) (first ∷ rs) ≡ after (alone 1) rs
-unfolding playPicture hex alone first
-started rs = refl
+  started : (rs : List Record) → after (fresh l) (first ∷ rs) ≡ after (alone 1) rs
+  unfolding playPicture hex alone first
+  started rs = refl
 
-rescanned : (k : ℕ) → k < maxPass → next (alone k) rescan ≡ alone (suc k)
-unfolding playPicture hex alone rescan
-rescanned k h =
-    ap (λ (b : Bool). left (alone k) (concluded (alone k) (refuseIf b 9 (change (begin (NOTOK ∷ []) 1 (alone k)))))) (lt-leb maxPass k h)
+  rescanned : (k : ℕ) → k < maxPass → next (alone k) rescan ≡ alone (suc k)
+  unfolding playPicture hex alone rescan
+  rescanned k h =
+      ap (λ (b : Bool). left (alone k) (concluded (alone k) (refuseIf b 9 (change (begin (NOTOK ∷ []) 1 (alone k)))))) (lt-leb maxPass k h)
 
-rescans : (m k : ℕ) → k + m ≤ maxPass → after (alone k) (replicate m rescan) ≡ alone (k + m)
-unfolding after
-rescans zero k h = let e : k ≡ k + 0 = omega arith in ap alone e
-rescans (suc m) k h =
-    let e : suc k + m ≡ k + suc m = omega arith in
-    ap (λ (p : Picture). after p (replicate m rescan)) (rescanned k (omega arith)) ∙ rescans m (suc k) (omega arith) ∙ ap alone e
+  rescans : (m k : ℕ) → k + m ≤ maxPass → after (alone k) (replicate m rescan) ≡ alone (k + m)
+  unfolding after
+  rescans zero k h = let e : k ≡ k + 0 = omega arith in ap alone e
+  rescans (suc m) k h =
+      let e : suc k + m ≡ k + suc m = omega arith in
+      ap (λ (p : Picture). after p (replicate m rescan)) (rescanned k (omega arith)) ∙ rescans m (suc k) (omega arith) ∙ ap alone e
 
-last-pass : offered (alone maxPass) rescan ≡ refused 9
-unfolding playPicture hex alone rescan
-last-pass = refl
+  last-pass : offered (alone maxPass) rescan ≡ refused 9
+  unfolding playPicture hex alone rescan
+  last-pass = refl
 
 -- so many rescans lead from pass 1 to the last one; nothing counts them out
 many : ℕ
@@ -245,17 +246,19 @@ many-is : 1 + many ≡ maxPass
 unfolding many
 many-is = refl
 
-gives-9 : RecordGives 9
-gives-9 =
-    let e : after (fresh minSize) (first ∷ replicate many rescan) ≡ alone maxPass = started (replicate many rescan) ∙ rescans many 1 (omega (arith, many-is)) ∙ ap alone many-is in
-    (first ∷ replicate many rescan, rescan, ap (λ (p : Picture). offered p rescan) e ∙ last-pass)
+gives-9 : (l : ℕ) → RecordGives l 9
+gives-9 l =
+    let e : after (fresh l) (first ∷ replicate many rescan) ≡ alone l maxPass =
+    started l (replicate many rescan) ∙ rescans l many 1 (omega (arith, many-is)) ∙ ap (alone l) many-is in
+    (first ∷ replicate many rescan, rescan, ap (λ (p : Picture). offered p rescan) e ∙ last-pass l)
 
-records-give : All RecordGives recordNumbers
-records-give =
-    all-cons gives-1
-    (all-cons gives-2
-    (all-cons gives-3
-    (all-cons gives-4 (all-cons gives-5 (all-cons gives-6 (all-cons gives-7 (all-cons gives-8 (all-cons gives-9 all-nil))))))))
+records-give : (l : ℕ) → All (RecordGives l) recordNumbers
+records-give l =
+    all-cons (gives-1 l)
+    (all-cons (gives-2 l)
+    (all-cons (gives-3 l)
+    (all-cons (gives-4 l)
+    (all-cons (gives-5 l) (all-cons (gives-6 l) (all-cons (gives-7 l) (all-cons (gives-8 l) (all-cons (gives-9 l) all-nil))))))))
 
 fresh-gives : All (λ (n : ℕ). (l : ℕ) × (freshNumber l ≡ n)) freshNumbers
 unfolding playPicture
@@ -294,9 +297,9 @@ join-gives =
     (all-cons {x = 15} (minSize, idle, long, hex 6 0x00000000_4000, rw long-enough)
     (all-cons {x = 16} (minSize, idle, long, hex 7 0x00000000_2001_00, rw long-enough) all-nil))))
 
-lookUp-gives : All (λ (n : ℕ). (rs : List Record) × (a : Pair) × (lookUp (after (fresh minSize) rs) a ≡ notFound n)) lookUpNumbers
+lookUp-gives : (l : ℕ) → All (λ (n : ℕ). (rs : List Record) × (a : Pair) × (lookUp (after (fresh l) rs) a ≡ notFound n)) lookUpNumbers
 unfolding playLookUp first hex
-lookUp-gives = all-cons (first ∷ [], record { block = 0x22; number = 0x01 }, refl) (all-cons ([], record { block = 0x22; number = 0x01 }, refl) all-nil)
+lookUp-gives l = all-cons (first ∷ [], record { block = 0x22; number = 0x01 }, refl) (all-cons ([], record { block = 0x22; number = 0x01 }, refl) all-nil)
 
 pub numbers : Numbers
 numbers =

@@ -309,7 +309,8 @@ joinNumbers = 10 ∷ 13 ∷ 14 ∷ 15 ∷ 16 ∷ []
 abbrev pub lookUpNumbers : List ℕ
 lookUpNumbers = 17 ∷ 18 ∷ []
 
--- Each call gives only its own numbers, and gives each of them: records and look-ups after some list of records from a fresh picture.
+-- Each call gives only its own numbers, and gives each of them: records and look-ups after some list of records from the fresh picture
+-- for any L.
 pub record Numbers : Type 0 where
   pub ofRecord : (p : Picture) (r : Record) (n : ℕ) → offered p r ≡ refused n → isIn recordNumbers n ≡ true
   pub ofFresh : (l : ℕ) → freshNumber l ≢ 0 → isIn freshNumbers (freshNumber l) ≡ true
@@ -317,9 +318,9 @@ pub record Numbers : Type 0 where
   pub ofCut : (size msgId : ℕ) (payload : List ℕ) (k room n : ℕ) → cut size msgId payload k room ≡ uncut n → isIn cutNumbers n ≡ true
   pub ofJoin : (size : ℕ) (s : Joining) (buffer telegram : List ℕ) (n : ℕ) → join size s buffer telegram .answer ≡ unjoined n → isIn joinNumbers n ≡ true
   pub ofLookUp : (p : Picture) (a : Pair) (n : ℕ) → lookUp p a ≡ notFound n → isIn lookUpNumbers n ≡ true
-  pub recordGives : All (λ (n : ℕ). (rs : List Record) × (r : Record) × (offered (after (fresh 12) rs) r ≡ refused n)) recordNumbers
+  pub recordGives : (l : ℕ) → All (λ (n : ℕ). (rs : List Record) × (r : Record) × (offered (after (fresh l) rs) r ≡ refused n)) recordNumbers
   pub freshGives : All (λ (n : ℕ). (l : ℕ) × (freshNumber l ≡ n)) freshNumbers
   pub countGives : All (λ (n : ℕ). (size : ℕ) × (payload : List ℕ) × (count size payload ≡ uncounted n)) countNumbers
   pub cutGives : All (λ (n : ℕ). (size msgId : ℕ) × (payload : List ℕ) × (k room : ℕ) × (cut size msgId payload k room ≡ uncut n)) cutNumbers
   pub joinGives : All (λ (n : ℕ). (size : ℕ) × (s : Joining) × (buffer telegram : List ℕ) × (join size s buffer telegram .answer ≡ unjoined n)) joinNumbers
-  pub lookUpGives : All (λ (n : ℕ). (rs : List Record) × (a : Pair) × (lookUp (after (fresh 12) rs) a ≡ notFound n)) lookUpNumbers
+  pub lookUpGives : (l : ℕ) → All (λ (n : ℕ). (rs : List Record) × (a : Pair) × (lookUp (after (fresh l) rs) a ≡ notFound n)) lookUpNumbers

@@ -3,7 +3,7 @@ pub mod Ways
 pub mod Pairs
 pub mod Sound
 pub mod Decode
-pub mod Backwards
+pub mod Encode
 pub mod Along
 pub mod Measure
 pub mod Questions

@@ -15,8 +15,8 @@ use Rattle.rules.proofs.Free.{freeNumbers}
 use Rattle.rules.proofs.Aimed.{setsAimed}
 use Rattle.rules.proofs.Barring.{unbarred}
 use Rattle.rules.proofs.Off.{emptyInOff}
-use Rattle.rules.proofs.Decode.{decodes}
-use Rattle.rules.proofs.Backwards.{decodesOnly}
+use Rattle.rules.proofs.Encode.{decodes}
+use Rattle.rules.proofs.Decode.{decodesOnly}
 use Rattle.rules.proofs.States.{statesByKinds}
 use Rattle.rules.proofs.Values.{values}
 use Rattle.rules.proofs.Numbers.{numbers}

@@ -1,5 +1,5 @@
 -- The free number of a block: the least that is not used, and none only where all are.
-use Prim.Native.Nat.{ℕ, zero, suc, _+_, _-_, _<_, _≤_}
+use Prim.Native.Nat.{ℕ, zero, suc, _+_, _<_, _≤_}
 use mathlib.Core.Path.{_≡_, refl, sym, _∙_, ap, subst}
 use mathlib.Core.Bool.{Bool, true, false, cond, _&&_, _||_}
 use mathlib.Core.List.{List, [], _∷_, _++_}
@@ -74,19 +74,13 @@ unfolding freeNumber leastFree
 freeNumbers elsewhere announced b =
     record {
       least = λ n h.
-          let r = least-some used count minNumber n (isIn used minNumber) refl h in
-          (r .0, omega (arith, r .1), sym (held n) ∙ r .2, λ m l k. sym (held m) ∙ r .3 m l k);
-      noneLeft = λ h m l k. sym (held m) ∙ least-none used count minNumber (isIn used minNumber) refl h m l (omega arith);
-      allUsed = λ f. none-least used count minNumber (isIn used minNumber) refl (λ k l g. held k ∙ f k l (omega arith));
+          let r = least-some _ _ _ n _ refl h in
+          (omega (arith, r .0), omega (arith, r .1), sym (held n) ∙ r .2, λ m l k. sym (held m) ∙ r .3 m (omega arith) k);
+      noneLeft = λ h m l k. sym (held m) ∙ least-none _ _ _ _ refl h m (omega arith) (omega arith);
+      allUsed = λ f. none-least _ _ _ _ refl (λ k l g. held k ∙ f k (omega arith) (omega arith));
     }
   where
-    used : List ℕ
-    used = numbersOf b elsewhere ++ numbersOf b announced
-
-    count : ℕ
-    count = suc maxNumber - minNumber
-
-    held : (m : ℕ) → isIn used m ≡ isUsed elsewhere announced b m
+    held : (m : ℕ) → isIn (numbersOf b elsewhere ++ numbersOf b announced) m ≡ isUsed elsewhere announced b m
     held m = used-held elsewhere announced b m
 
 -- the same of a number that is offered, by the names of its limits

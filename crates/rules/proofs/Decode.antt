@@ -5,13 +5,13 @@ use mathlib.Core.Bool.{Bool, true, false, _&&_}
 use mathlib.Core.List.{List, [], _∷_, _++_, map}
 use mathlib.Core.Option.{Option, none, some}
 use native.Mathlib.Omega.{arith}
-use borrow.Author.Tests.{leb-true, eqb-true}
-use lib.Dec.{eqb, leb}
+use borrow.Author.Tests.{ltb-false, leb-true, leb-false, eqb-true}
+use lib.Dec.{eqb, leb, ltb}
 use lib.ListN.{length, getD, drop, length-drop, drop-of-length-le}
 use lib.Seq.{drop-cons}
 use Rattle.laws.specs.Lists.{any, collect, upFrom}
-use Rattle.laws.specs.Bools.{and-left, and-right, not-true, on-cond}
-use Rattle.laws.specs.Alls.{All, all-everywhere}
+use Rattle.laws.specs.Bools.{and-left, and-right, or-left, or-right, not-true, on-cond}
+use Rattle.laws.specs.Alls.{All, all-everywhere, all-map, any-none}
 use Rattle.rules.specs.House.{maxNodes, maxPairs, maxPass}
 use Rattle.rules.specs.Picture.{Pair}
 use Rattle.rules.specs.Event.{Event, START, NCE, SHUTDOWN, DELAY, be2, be4, two, four, readPairs, pairBytes, badBlock, goodNodes, check, decodePlain, decodeAnswer, decode, header, encodeEvent}
@@ -75,6 +75,13 @@ nodes-formed z n h =
     let g = and-right z (leb 1 n && leb n maxNodes) h in
     (leb-true 1 n (and-left (leb 1 n) (leb n maxNodes) g), leb-true n maxNodes (and-right (leb 1 n) (leb n maxNodes) g))
 
+blocks-good : (ps : List Pair) → any badBlock ps ≡ false → All (λ (a : Pair). (0x02 ≤ a .block) × (a .block ≤ 0xFE)) ps
+unfolding badBlock
+blocks-good ps h = all-map (λ a e. (ltb-false (a .block) 0x02 (or-left _ _ e), below a (or-right (ltb (a .block) 0x02) _ e))) (any-none badBlock ps h)
+  where
+    below : (a : Pair) → leb 0xFF (a .block) ≡ false → a .block ≤ 0xFE
+    below a e = omega (arith, leb-false 0xFF (a .block) e)
+
 -- the event of these bytes is well formed; it can be written and has them, if they are bytes
 abbrev Bytes : List ℕ → Type 0
 Bytes b = All (λ (x : ℕ). x < 256) b
@@ -90,9 +97,9 @@ plain-reads : (kind pass x : ℕ) → Granted (Heads kind pass x) (decodePlain k
 unfolding decodePlain encodeEvent
 plain-reads kind pass x =
     on-cond G (eqb kind 1) _ _
-    (λ k. granted-check P _ (START x) (λ t. (nodes-formed (eqb pass 0) x t, λ h. (named 1 0 k (no-pass (goodNodes x) t), and-right (eqb pass 0) _ t))))
+    (λ k. granted-check P _ (START x) (λ t. (nodes-formed (eqb pass 0) x t, λ h. (named 1 0 k (no-pass (goodNodes x) t), nodes-formed (eqb pass 0) x t))))
     (λ _. on-cond G (eqb kind 2) _ _
-    (λ k. granted-check P _ (NCE x) (λ t. (nodes-formed (eqb pass 0) x t, λ h. (named 2 0 k (no-pass (goodNodes x) t), and-right (eqb pass 0) _ t))))
+    (λ k. granted-check P _ (NCE x) (λ t. (nodes-formed (eqb pass 0) x t, λ h. (named 2 0 k (no-pass (goodNodes x) t), nodes-formed (eqb pass 0) x t))))
     (λ _. on-cond G (eqb kind 3) _ _
     (λ k. granted-check P _ SHUTDOWN (λ t. (tt, λ h. (named 3 0 k (no-pass (eqb x 0) t) ∙ ap (header 3 0) (eqb-true x 0 (and-right (eqb pass 0) _ t)), tt))))
     (λ _. on-cond G (eqb kind 5) _ _ (λ k. (tt, λ h. (named 5 pass k refl, h)))
@@ -147,7 +154,7 @@ module _ (b : List ℕ) where
         let s = and-left (leb c maxPairs && eqb (length b) (11 + 2 * c)) _ t in
         let few : c ≤ maxPairs = leb-true c maxPairs (and-left (leb c maxPairs) _ s) in
         let fits : length b ≡ 11 + 2 * c = eqb-true (length b) (11 + 2 * c) (and-right (leb c maxPairs) _ s) in
-        let good : any badBlock ps ≡ false = not-true (any badBlock ps) (and-right (leb c maxPairs && eqb (length b) (11 + 2 * c)) _ t) in
+        let good = blocks-good ps (not-true (any badBlock ps) (and-right (leb c maxPairs && eqb (length b) (11 + 2 * c)) _ t)) in
         let r = pairs-again c (drop 11 b) (rw length-drop (omega arith)) in
         let short : length ps ≤ maxPairs = omega (arith, r .1) in (
           short,

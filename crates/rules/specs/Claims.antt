@@ -8,15 +8,15 @@ use mathlib.Core.Option.{Option, none, some}
 use lib.Dec.{eqb}
 use lib.ListN.{length, getD, take, drop, replicate}
 use Rattle.rules.specs.Picture.{Off, NotOk, Ok, nodesIn, Row, Pair, Picture, holds, pairsIn, keeps, bars, rowAt, openAt, fresh, freshNumber, seatAt, others}
-use Rattle.rules.specs.Event.{Event, START, NCE, SHUTDOWN, ANSWER, NONE, DELAY, decode, encodeEvent, goodNodes, badBlock}
-use Rattle.rules.specs.House.{minNumber, maxNumber, maxPairs, maxPass}
+use Rattle.rules.specs.Event.{Event, START, NCE, SHUTDOWN, ANSWER, NONE, DELAY, decode, encodeEvent}
+use Rattle.rules.specs.House.{minNumber, maxNumber}
 use Rattle.rules.specs.Renumber.{isIn, freeNumber}
 use Rattle.rules.specs.Step.{takes}
 use Rattle.rules.specs.Order.{encodeAll, Order, ASK, SET, OK, NOTOK, NEW, INVALID, WAIT-SHORT, WAIT-LONG, encode}
 use Rattle.rules.specs.Run.{Outcome, refused, taken, Record, offered, next, after, history, Sent, sentBy, written, lent, resultOf}
 use Rattle.rules.specs.Telegram.{uncounted, countNumber, countValue, uncut, cutNumber, cutBytes, cutLength, unjoined, joinNumber, joinMsgId, joinLength}
 use Rattle.rules.specs.Telegram.{telegramOf, telegrams, countOf, count, countIs, cut, cutTo, Joining, idle, stillOpen, complete, join, joinAll}
-use Rattle.laws.specs.Lists.{any, collect}
+use Rattle.laws.specs.Lists.{collect}
 use Rattle.laws.specs.Alls.{All}
 use Rattle.rules.specs.Listing.{listing, listedPositions, lookUp, found, notFound, lookupNumber, lookupPosition, lookupAddress}
 
@@ -151,15 +151,15 @@ pub record Demand3 (l : ℕ) (rs : List Record) : Type 0 where
 pub record EmptyInOff (l : ℕ) (rs : List Record) : Type 0 where
   pub empty : (k : ℕ) → k ≤ length rs → pictureAt l rs k .state ≡ Off → listing (pictureAt l rs k) ≡ []
 
--- The events that have bytes: every field that takes several bytes in its range, and no more pairs than the count allows. Decoding
--- the bytes of such an event gives the event.
+-- The events that have bytes: "N is 1 to 64", a pass of four bytes and an address of two, "up to 16 pairs", and no "block 00, 01 or
+-- FF". Decoding the bytes of such an event gives the event.
 abbrev pub Writable : Event → Type 0
-Writable (START n) = goodNodes n ≡ true
-Writable (NCE n) = goodNodes n ≡ true
+Writable (START n) = (1 ≤ n) × (n ≤ 64)
+Writable (NCE n) = (1 ≤ n) × (n ≤ 64)
 Writable SHUTDOWN = Unit {0}
-Writable (ANSWER c x a ps) = (c ≤ maxPass) × (a < 65_536) × (length ps ≤ maxPairs) × (any badBlock ps ≡ false)
-Writable (NONE c x) = c ≤ maxPass
-Writable (DELAY c) = c ≤ maxPass
+Writable (ANSWER c x a ps) = (c ≤ 4_294_967_295) × (a < 65_536) × (length ps ≤ 16) × All (λ (p : Pair). (0x02 ≤ p .block) × (p .block ≤ 0xFE)) ps
+Writable (NONE c x) = c ≤ 4_294_967_295
+Writable (DELAY c) = c ≤ 4_294_967_295
 
 pub record Decodes (e : Event) : Type 0 where
   pub decodes : Writable e → decode (encodeEvent e) ≡ some e

@@ -1,21 +1,22 @@
 -- Every SET answers the announcement at hand and offers a number that is free.
-use Prim.Native.Nat.{ℕ, zero, suc, _+_, _-_, _/_, _<_, _≤_}
+use Prim.Native.Nat.{ℕ, zero, suc, _-_, _/_}
 use mathlib.Core.Path.{_≡_, refl, sym, _∙_, ap, subst}
 use mathlib.Core.Bool.{Bool, true, false, cond, _&&_, _||_}
 use mathlib.Core.List.{List, [], _∷_, _++_, map}
-use mathlib.Core.Option.{Option, none, some, Option·some-injective}
+use mathlib.Core.Option.{Option, none, some}
 use native.Mathlib.Omega.{arith}
 use borrow.Author.Tests.{eq-eqb}
-use lib.Dec.{eqb, ltb}
+use lib.Dec.{ltb}
 use lib.ListN.{length, drop}
+use lib.Seq.{take-at}
 use Rattle.laws.specs.Lists.{any, collect}
 use Rattle.laws.specs.Bools.{or-left, or-right, or-false, or-true-left, or-true-right, on-cond}
-use Rattle.laws.specs.Alls.{All, all-nil, all-cons, all-append, all-map, all-in, all-everywhere, all-collect, any-none, none-any, any-append, any-drop, all-mapped, all-of}
-use Rattle.rules.specs.House.{minNumber, maxNumber, maxTries, maxSilences}
+use Rattle.laws.specs.Alls.{All, all-nil, all-cons, all-append, all-map, all-in, all-everywhere, all-collect, any-none, none-any, any-drop, all-mapped, all-of}
+use Rattle.rules.specs.House.{maxTries, maxSilences}
 use Rattle.rules.specs.Picture.{Pair, samePair, holds, Row, Picture, withRows, withState, withDelay, Kept, kept, keptBy, pairsOf, pairsIn, hasAddress, keeps, noRow, rowAt, isOpen, isOk, isSilent, Seat, seatAt, others, put}
 use Rattle.rules.specs.Event.{Event, START, NCE, SHUTDOWN, ANSWER, NONE, DELAY, decode}
 use Rattle.rules.specs.Order.{Order, ASK, OK, NOTOK, NEW, INVALID, WAIT-SHORT, WAIT-LONG}
-use Rattle.rules.specs.Renumber.{Judged, isGood, judge, goods, numbersOf, isIn, leastFrom, leastFree, freeNumber, Renumbering, finished, renumbers, offer, renumberFrom, renumber, placeOf, triesOf}
+use Rattle.rules.specs.Renumber.{Judged, isGood, judge, goods, freeNumber, Renumbering, finished, renumbers, offer, renumberFrom, renumber, placeOf, triesOf}
 use Rattle.rules.specs.Step.{Change, asks, scan, begin, shutDown, changeRows, delayEnds, setOrder, judgedFor, renumberingFor, listedRow, keepAnswer}
 use Rattle.rules.specs.Ending.{becomesOk, waits, okOrder, tell, packed, lost, gained, tellRows, told, waitOrder, settled, ended, endOrders, ordersOf, pictureOf}
 use Rattle.rules.specs.Run.{Outcome, Record, left, Sent, sentWith, sentBy}
@@ -24,50 +25,7 @@ use Rattle.rules.proofs.Ways.{Ways, Seated, every-taken, Offered, was-r
 use Rattle.rules.proofs.Sound.{kept-after}
 use Rattle.rules.proofs.Questions.{row-in}
 use Rattle.rules.proofs.Pairs.{same-self}
-
--- the least free number is in range and not used
-least-free : (used : List ℕ) (more n m : ℕ) (b : Bool) → isIn used n ≡ b → leastFrom used more n b ≡ some m
-    → (n ≤ m) × (m < n + more) × (isIn used m ≡ false)
-unfolding leastFrom
-least-free used zero n m b e h = let z : _≡_ {A = ℕ} 0 1 = cc in absurd (omega arith)
-least-free used (suc more) n m false e h =
-    let i : n ≡ m = Option·some-injective n m h in
-    (omega arith, omega arith, subst (λ (k : ℕ). isIn used k ≡ false) i e)
-least-free used (suc more) n m true e h =
-    let r = least-free used more (suc n) m (isIn used (suc n)) refl h in
-    (omega (arith, r .0), omega (arith, r .1), r .2)
-
--- a number that stands nowhere with its block makes a pair that is nowhere held
-unused : (b m : ℕ) (ps : List Pair) → isIn (numbersOf b ps) m ≡ false → holds ps (record { block = b; number = m }) ≡ false
-unfolding isIn numbersOf holds any samePair
-unused b m [] h = refl
-unused b m (a ∷ ps) h = go (eqb b (a .block)) h (λ k. unused b m ps k)
-  where
-    go : (t : Bool) → isIn (cond t (a .number ∷ numbersOf b ps) (numbersOf b ps)) m ≡ false
-        → (isIn (numbersOf b ps) m ≡ false → holds ps (record { block = b; number = m }) ≡ false)
-        → (t && eqb m (a .number) || holds ps (record { block = b; number = m })) ≡ false
-    go true h f = or-false (eqb m (a .number)) _ (or-left (eqb m (a .number)) _ h) (f (or-right (eqb m (a .number)) _ h))
-    go false h f = f h
-
-pub record Free (elsewhere announced : List Pair) (b m : ℕ) : Type 0 where
-  pub low : minNumber ≤ m
-  pub high : m ≤ maxNumber
-  pub there : holds elsewhere (record { block = b; number = m }) ≡ false
-  pub here : holds announced (record { block = b; number = m }) ≡ false
-
-pub free-number : (elsewhere announced : List Pair) (b m : ℕ) → freeNumber elsewhere announced b ≡ some m → Free elsewhere announced b m
-unfolding freeNumber leastFree isIn
-free-number elsewhere announced b m h =
-    let used = numbersOf b elsewhere ++ numbersOf b announced in
-    let r = least-free used (suc maxNumber - minNumber) minNumber m (isIn used minNumber) refl h in
-    let s = split (r .2) in
-    record { low = r .0; high = omega (arith, r .1); there = unused b m elsewhere (s .0); here = unused b m announced (s .1) }
-  where
-    split : isIn (numbersOf b elsewhere ++ numbersOf b announced) m ≡ false
-        → (isIn (numbersOf b elsewhere) m ≡ false) × (isIn (numbersOf b announced) m ≡ false)
-    split h =
-        let e = sym (any-append (eqb m) (numbersOf b elsewhere) (numbersOf b announced)) ∙ h in
-        (or-left (isIn (numbersOf b elsewhere) m) (isIn (numbersOf b announced) m) e, or-right (isIn (numbersOf b elsewhere) m) (isIn (numbersOf b announced) m) e)
+use Rattle.rules.proofs.Free.{Free, free-number}
 
 -- what a renumbering renumbers is one of the judged pairs, and the number is the free one
 abbrev Offers : (ℕ → Option ℕ) → List Judged → Renumbering → Type 0
@@ -192,6 +150,21 @@ free-everywhere t a ps g there here (suc i) =
     (all-map (λ (r : Row) (h : All (λ (b : Pair). samePair g b ≡ false) (pairsIn r)). none-any (samePair g) h)
     (all-collect pairsIn (others t) (any-none (samePair g) (collect pairsIn (others t)) there))))
 
+-- another row in the seat leaves the others
+others-in : (t : Seat) (r : Row) (x : ℕ) → x ≡ suc (length (t .front)) → others (seatAt (put t r) x) ≡ others t
+unfolding others seatAt put
+others-in t r zero e = absurd (omega arith)
+others-in t r (suc i) e =
+    let f : length (t .front) ≡ i = omega arith in
+    let d : drop (suc i) (t .front ++ r ∷ t .back) ≡ t .back = drop-behind (t .front) (t .back) r i f in
+    λ k. take-at (t .front) (r ∷ t .back) i f k ++ d k
+  where
+    drop-behind : (xs ys : List Row) (r : Row) (i : ℕ) → length xs ≡ i → drop (suc i) (xs ++ r ∷ ys) ≡ ys
+    drop-behind [] ys r zero e = refl
+    drop-behind [] ys r (suc i) e = absurd (omega arith)
+    drop-behind (x ∷ xs) ys r zero e = absurd (omega arith)
+    drop-behind (x ∷ xs) ys r (suc i) e = drop-behind xs ys r i (omega arith)
+
 -- the SET of an answer that is kept
 set-aimed : (p : Picture) (c x a : ℕ) (ps : List Pair) → Seated p c x
     → All (Aimed (some (ANSWER c x a ps)) (pictureOf (keepAnswer x a ps (seatAt (p .rows) x) p))) (setOrder x a (renumberingFor (seatAt (p .rows) x) ps))
@@ -223,6 +196,7 @@ set-aimed p c x a ps s = go (renumberingFor t ps) (drop-offers (renumberingFor t
           high = f .high;
           unannounced = f .here;
           unlisted = free-everywhere t a ps _ (f .there) (f .here);
+          least = λ m l k. rw (others-in t (listedRow t a ps) x (s .here)) (f .least m l k);
         }
 
     go : (n : Renumbering) → Offers (freeNumber elsewhere ps) (judge elsewhere [] ps) n → All (Aimed (some (ANSWER c x a ps)) q) (setOrder x a n)

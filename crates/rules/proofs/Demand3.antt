@@ -24,7 +24,8 @@ use Rattle.rules.specs.Run.{Outcome, onEvent, onDecoded, concluded, step
 use Rattle.rules.specs.Claims.{Exists8, ifTaken, accepted, isReply, countReply, repliesIn, pictureAt, sentAt, recordAt, repliesBetween, Awaits, Names, Allowed, bound, Reaches, arrives, holdsFewer, Demand3}
 use Rattle.rules.proofs.Ways.{Ways, every-taken, Offered, was-refused, was-taken, offered-cases}
 use Rattle.rules.proofs.Sound.{Sound, Formed}
-use Rattle.rules.proofs.Decode.{formed, decode-encode}
+use Rattle.rules.proofs.Decode.{formed}
+use Rattle.rules.proofs.Encode.{decode-encode}
 use Rattle.rules.proofs.Measure.{work, level, open-work, falls, level-begins}
 use Rattle.rules.proofs.Runs.{Running, running-fresh, running-taken}
 use Rattle.rules.proofs.Along.{along, along-next}

@@ -3,6 +3,7 @@ pub mod Ways
 pub mod Pairs
 pub mod Sound
 pub mod Decode
+pub mod Encode
 pub mod Along
 pub mod Measure
 pub mod Questions
@@ -13,6 +14,9 @@ pub mod Sizes
 pub mod Off
 pub mod Records
 pub mod Values
+pub mod States
+pub mod Numbers
+pub mod Free
 pub mod Aimed
 pub mod Barring
 pub mod RoundTrip

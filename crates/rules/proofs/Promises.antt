@@ -11,11 +11,15 @@ use Rattle.rules.specs.Picture.{legalSize}
 use Rattle.rules.specs.Promises.{Promises}
 use Rattle.rules.proofs.Demand3.{demand3}
 use Rattle.rules.proofs.Records.{bounds, fits, refusal, carried}
+use Rattle.rules.proofs.Free.{freeNumbers}
 use Rattle.rules.proofs.Aimed.{setsAimed}
 use Rattle.rules.proofs.Barring.{unbarred}
 use Rattle.rules.proofs.Off.{emptyInOff}
-use Rattle.rules.proofs.Decode.{decodes}
+use Rattle.rules.proofs.Encode.{decodes}
+use Rattle.rules.proofs.Decode.{decodesOnly}
+use Rattle.rules.proofs.States.{statesByKinds}
 use Rattle.rules.proofs.Values.{values}
+use Rattle.rules.proofs.Numbers.{numbers}
 use Rattle.rules.proofs.RoundTrip.{roundTrip, cuts, lengths}
 use Rattle.rules.proofs.Edges.{edgesHold, casesHold}
 use Rattle.rules.proofs.Tight.{longestWay}
@@ -35,8 +39,12 @@ promises =
       refusal = refusal;
       carried = carried;
       setsAimed = setsAimed;
+      freeNumber = freeNumbers;
       values = values;
+      numbers = numbers;
       decodes = decodes;
+      statesByKinds = statesByKinds;
+      decodesOnly = decodesOnly;
       roundTrip = λ size msgId payload s lent l h m n b. roundTrip size msgId payload s lent (legal size l h) (omega arith) n b;
       cuts = λ size msgId payload l h n. cuts size msgId payload (legal size l h) n;
       lengths = λ size msgId payload l h. lengths size msgId payload (legal size l h);

@@ -18,7 +18,7 @@ use Rattle.rules.specs.Picture.{legalSize}
 use Rattle.rules.specs.Event.{be2, be4, two, four}
 use Rattle.rules.specs.Telegram.{count, cut, headBytes, telIdOf, telLenOf, telegram, countOf, telIdFor, partOf, telegramOf, telegrams, Joining, idle, opened, stillOpen, complete, Joined, begins, continues, joinTo, malformed, join, JoinedAll, joinAll}
 use Rattle.rules.specs.Claims.{RoundTrip, Cuts, Lengths}
-use Rattle.rules.proofs.Decode.{four-back}
+use Rattle.rules.proofs.Encode.{four-back}
 
 pub size-range : (size : ℕ) → legalSize size ≡ true → (minSize ≤ size) × (size ≤ maxSize)
 unfolding legalSize

@@ -23,7 +23,7 @@ use Rattle.rules.specs.Ending.{becomesOk, settled, okOrder, missing, pac
 use Rattle.rules.proofs.Ways.{Ways, Seated, Keepers, every-taken}
 use Rattle.rules.proofs.Pairs.{same-self, goods-few}
 use Rattle.rules.proofs.Sound.{Apart, RowsApart, RowProper, Proper, SoundRows, Sound, Formed, kept-after, length-counted, split-rows}
-use Rattle.rules.proofs.Decode.{pairs-length}
+use Rattle.rules.proofs.Encode.{pairs-length}
 
 -- how many bytes an order has
 unfoldable pub sizeOf : Order → ℕ

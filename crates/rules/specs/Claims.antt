@@ -1,22 +1,24 @@
 -- What the rules promise, as types that quote the demands; proofs/ has a proof of each.
 use Prim.Native.Nat.{ℕ, suc, _+_, _-_, _*_, _<_, _≤_}
 use mathlib.Core.Path.{_≡_}
-use mathlib.Core.Bool.{Bool, true, false, cond}
+use mathlib.Core.Bool.{Bool, true, false, cond, not, _||_}
 use mathlib.Core.List.{List, [], _∷_, _++_}
 use mathlib.Core.Logic.{_≢_}
 use mathlib.Core.Option.{Option, none, some}
 use lib.Dec.{eqb}
 use lib.ListN.{length, getD, take, drop, replicate}
-use Rattle.rules.specs.Picture.{Off, NotOk, Ok, nodesIn, Row, Pair, Picture, holds, pairsIn, keeps, bars, rowAt, openAt, fresh}
-use Rattle.rules.specs.Event.{Event, START, NCE, SHUTDOWN, ANSWER, NONE, DELAY, decode, encodeEvent, goodNodes, badBlock}
-use Rattle.rules.specs.House.{minNumber, maxNumber, maxPairs, maxPass}
+use Rattle.rules.specs.Picture.{Off, NotOk, Ok, nodesIn, Row, Pair, Picture, holds, pairsIn, keeps, bars, rowAt, openAt, fresh, freshNumber, seatAt, others}
+use Rattle.rules.specs.Event.{Event, START, NCE, SHUTDOWN, ANSWER, NONE, DELAY, decode, encodeEvent}
+use Rattle.rules.specs.House.{minNumber, maxNumber}
+use Rattle.rules.specs.Renumber.{isIn, freeNumber}
+use Rattle.rules.specs.Step.{takes}
 use Rattle.rules.specs.Order.{encodeAll, Order, ASK, SET, OK, NOTOK, NEW, INVALID, WAIT-SHORT, WAIT-LONG, encode}
 use Rattle.rules.specs.Run.{Outcome, refused, taken, Record, offered, next, after, history, Sent, sentBy, written, lent, resultOf}
 use Rattle.rules.specs.Telegram.{uncounted, countNumber, countValue, uncut, cutNumber, cutBytes, cutLength, unjoined, joinNumber, joinMsgId, joinLength}
-use Rattle.rules.specs.Telegram.{telegramOf, telegrams, countOf, count, countIs, cut, cutTo, Joining, idle, stillOpen, complete, joinAll}
-use Rattle.laws.specs.Lists.{any, collect}
+use Rattle.rules.specs.Telegram.{telegramOf, telegrams, countOf, count, countIs, cut, cutTo, Joining, idle, stillOpen, complete, join, joinAll}
+use Rattle.laws.specs.Lists.{collect}
 use Rattle.laws.specs.Alls.{All}
-use Rattle.rules.specs.Listing.{listing, listedPositions, found, notFound, lookupNumber, lookupPosition, lookupAddress}
+use Rattle.rules.specs.Listing.{listing, listedPositions, lookUp, found, notFound, lookupNumber, lookupPosition, lookupAddress}
 
 -- the event that a record is taken as; none where it is refused
 unfoldable pub ifTaken : Outcome → Option Event → Option Event
@@ -149,18 +151,23 @@ pub record Demand3 (l : ℕ) (rs : List Record) : Type 0 where
 pub record EmptyInOff (l : ℕ) (rs : List Record) : Type 0 where
   pub empty : (k : ℕ) → k ≤ length rs → pictureAt l rs k .state ≡ Off → listing (pictureAt l rs k) ≡ []
 
--- The events that have bytes: every field that takes several bytes in its range, and no more pairs than the count allows. Decoding
--- the bytes of such an event gives the event.
+-- The events that have bytes: "N is 1 to 64", a pass of four bytes and an address of two, "up to 16 pairs", and no "block 00, 01 or
+-- FF". Decoding the bytes of such an event gives the event.
 abbrev pub Writable : Event → Type 0
-Writable (START n) = goodNodes n ≡ true
-Writable (NCE n) = goodNodes n ≡ true
+Writable (START n) = (1 ≤ n) × (n ≤ 64)
+Writable (NCE n) = (1 ≤ n) × (n ≤ 64)
 Writable SHUTDOWN = Unit {0}
-Writable (ANSWER c x a ps) = (c ≤ maxPass) × (a < 65_536) × (length ps ≤ maxPairs) × (any badBlock ps ≡ false)
-Writable (NONE c x) = c ≤ maxPass
-Writable (DELAY c) = c ≤ maxPass
+Writable (ANSWER c x a ps) = (c ≤ 4_294_967_295) × (a < 65_536) × (length ps ≤ 16) × All (λ (p : Pair). (0x02 ≤ p .block) × (p .block ≤ 0xFE)) ps
+Writable (NONE c x) = c ≤ 4_294_967_295
+Writable (DELAY c) = c ≤ 4_294_967_295
 
 pub record Decodes (e : Event) : Type 0 where
   pub decodes : Writable e → decode (encodeEvent e) ≡ some e
+
+-- And backwards: bytes that decode to an event are the bytes of that event. So a record is malformed, number 2, exactly where it is
+-- the bytes of no such event.
+pub record DecodesOnly (b : List ℕ) : Type 0 where
+  pub only : All (λ (x : ℕ). x < 256) b → (e : Event) → decode b ≡ some e → (b ≡ encodeEvent e) × Writable e
 
 -- After every record of every list: "pass would exceed 4,294,967,295" never happens, and the sizes are the paper's.
 pub record Bounds (l : ℕ) (rs : List Record) : Type 0 where
@@ -187,8 +194,20 @@ pub record Carried (p : Picture) (r : Record) : Type 0 where
   pub pass : All (λ (s : Sent). s .pass ≡ next p r .pass) (sentBy (offered p r))
   pub bytes : written (offered p r) ≡ collect (λ (s : Sent). encode (s .pass) (s .order)) (sentBy (offered p r))
 
+-- a number that is used with a block: a pair of the other rows has it, or one of this answer
+abbrev pub isUsed : (elsewhere announced : List Pair) → (block number : ℕ) → Bool
+isUsed elsewhere announced b n = holds elsewhere (record { block = b; number = n }) || holds announced (record { block = b; number = n })
+
+-- "Free number: the least of 01 to FE that no other row keeps for that block and that stands with that block nowhere in this answer."
+pub record FreeNumber (elsewhere announced : List Pair) (b : ℕ) : Type 0 where
+  pub least : (n : ℕ) → freeNumber elsewhere announced b ≡ some n
+      → (0x01 ≤ n) × (n ≤ 0xFE) × (isUsed elsewhere announced b n ≡ false) × ((m : ℕ) → 0x01 ≤ m → m < n → isUsed elsewhere announced b m ≡ true)
+  pub noneLeft : freeNumber elsewhere announced b ≡ none → (m : ℕ) → 0x01 ≤ m → m ≤ 0xFE → isUsed elsewhere announced b m ≡ true
+  pub allUsed : ((m : ℕ) → 0x01 ≤ m → m ≤ 0xFE → isUsed elsewhere announced b m ≡ true) → freeNumber elsewhere announced b ≡ none
+
 -- A SET answers the announcement at hand: it goes to the position and the address that announced in this record and this pass, names
--- one of the announced pairs, and offers a number from 01 to FE that stands nowhere in the announcement and that no row keeps.
+-- one of the announced pairs, and offers a number from 01 to FE that stands nowhere in the announcement and that no row keeps: the
+-- least one, with every smaller number in the announcement or kept by a row of another position.
 pub record SetAimed (e : Option Event) (q : Picture) (position address block old new : ℕ) : Type 0 where
   pub announced : List Pair
   pub answers : e ≡ some (ANSWER (q .pass) position address announced)
@@ -198,6 +217,7 @@ pub record SetAimed (e : Option Event) (q : Picture) (position address block old
   pub high : new ≤ maxNumber
   pub unannounced : holds announced (record { block = block; number = new }) ≡ false
   pub unlisted : (x : ℕ) → holds (pairsIn (rowAt (q .rows) x)) (record { block = block; number = new }) ≡ false
+  pub least : (m : ℕ) → minNumber ≤ m → m < new → isUsed (collect pairsIn (others (seatAt (q .rows) position))) announced block m ≡ true
 
 abbrev pub Aimed : Option Event → Picture → Order → Type 0
 Aimed e q (ASK x) = Unit {0}
@@ -259,3 +279,48 @@ pub record Values : Type 0 where
   pub nodesOff : (rows : List Row) → nodesIn Off rows ≡ 0
   pub nodesNotOk : (rows : List Row) → nodesIn NotOk rows ≡ suc (length rows)
   pub nodesOk : (rows : List Row) → nodesIn Ok rows ≡ suc (length rows)
+
+-- "A small table fixes which record kinds are taken in which ring state: OFF takes START; NOTOK and OK take all others". The kind is
+-- the third byte of a record, and START is kind 1.
+abbrev pub kindByte : Event → ℕ
+kindByte e = getD (encodeEvent e) 2 0
+
+pub record StatesByKinds (e : Event) : Type 0 where
+  pub off : takes Off e ≡ eqb (kindByte e) 1
+  pub notOk : takes NotOk e ≡ not (eqb (kindByte e) 1)
+  pub ok : takes Ok e ≡ not (eqb (kindByte e) 1)
+
+-- The numbers by what is asked for: a record, a picture, a count, cutting, joining and a look-up.
+abbrev pub recordNumbers : List ℕ
+recordNumbers = 1 ∷ 2 ∷ 3 ∷ 4 ∷ 5 ∷ 6 ∷ 7 ∷ 8 ∷ 9 ∷ []
+
+abbrev pub freshNumbers : List ℕ
+freshNumbers = 10 ∷ []
+
+abbrev pub countNumbers : List ℕ
+countNumbers = 10 ∷ 11 ∷ []
+
+abbrev pub cutNumbers : List ℕ
+cutNumbers = 10 ∷ 11 ∷ 12 ∷ 13 ∷ []
+
+abbrev pub joinNumbers : List ℕ
+joinNumbers = 10 ∷ 13 ∷ 14 ∷ 15 ∷ 16 ∷ []
+
+abbrev pub lookUpNumbers : List ℕ
+lookUpNumbers = 17 ∷ 18 ∷ []
+
+-- Each call gives only its own numbers, and gives each of them: records and look-ups after some list of records from the fresh picture
+-- for any L.
+pub record Numbers : Type 0 where
+  pub ofRecord : (p : Picture) (r : Record) (n : ℕ) → offered p r ≡ refused n → isIn recordNumbers n ≡ true
+  pub ofFresh : (l : ℕ) → freshNumber l ≢ 0 → isIn freshNumbers (freshNumber l) ≡ true
+  pub ofCount : (size : ℕ) (payload : List ℕ) (n : ℕ) → count size payload ≡ uncounted n → isIn countNumbers n ≡ true
+  pub ofCut : (size msgId : ℕ) (payload : List ℕ) (k room n : ℕ) → cut size msgId payload k room ≡ uncut n → isIn cutNumbers n ≡ true
+  pub ofJoin : (size : ℕ) (s : Joining) (buffer telegram : List ℕ) (n : ℕ) → join size s buffer telegram .answer ≡ unjoined n → isIn joinNumbers n ≡ true
+  pub ofLookUp : (p : Picture) (a : Pair) (n : ℕ) → lookUp p a ≡ notFound n → isIn lookUpNumbers n ≡ true
+  pub recordGives : (l : ℕ) → All (λ (n : ℕ). (rs : List Record) × (r : Record) × (offered (after (fresh l) rs) r ≡ refused n)) recordNumbers
+  pub freshGives : All (λ (n : ℕ). (l : ℕ) × (freshNumber l ≡ n)) freshNumbers
+  pub countGives : All (λ (n : ℕ). (size : ℕ) × (payload : List ℕ) × (count size payload ≡ uncounted n)) countNumbers
+  pub cutGives : All (λ (n : ℕ). (size msgId : ℕ) × (payload : List ℕ) × (k room : ℕ) × (cut size msgId payload k room ≡ uncut n)) cutNumbers
+  pub joinGives : All (λ (n : ℕ). (size : ℕ) × (s : Joining) × (buffer telegram : List ℕ) × (join size s buffer telegram .answer ≡ unjoined n)) joinNumbers
+  pub lookUpGives : (l : ℕ) → All (λ (n : ℕ). (rs : List Record) × (a : Pair) × (lookUp (after (fresh l) rs) a ≡ notFound n)) lookUpNumbers

@@ -3,11 +3,11 @@ use Prim.Native.Nat.{ℕ, _^_, _<_, _≤_}
 use mathlib.Core.Path.{_≡_}
 use mathlib.Core.List.{List}
 use lib.ListN.{length}
-use Rattle.rules.specs.Picture.{Picture}
+use Rattle.rules.specs.Picture.{Pair, Picture}
 use Rattle.rules.specs.Event.{Event}
 use Rattle.rules.specs.Run.{Record}
 use Rattle.rules.specs.Telegram.{Joining}
-use Rattle.rules.specs.Claims.{Demand3, Bounds, Fits, Refusal, Carried, SetsAimed, Unbarred, EmptyInOff, Decodes, Values, RoundTrip, Cuts, Lengths}
+use Rattle.rules.specs.Claims.{Demand3, Bounds, Fits, Refusal, Carried, SetsAimed, Unbarred, EmptyInOff, FreeNumber, Decodes, DecodesOnly, StatesByKinds, Values, Numbers, RoundTrip, Cuts, Lengths}
 use Rattle.rules.specs.Table.{obtained, expected}
 use Rattle.rules.specs.Edges.{edges as edgeTable}
 use Rattle.rules.specs.Cases.{cases as caseTable}
@@ -24,10 +24,16 @@ pub record Promises : Type 0 where
   pub refusal : (p : Picture) (r : Record) → Refusal p r
   pub carried : (p : Picture) (r : Record) → Carried p r
   pub setsAimed : (p : Picture) (r : Record) → SetsAimed p r
+  -- of every block, whatever the other rows keep and an answer announces
+  pub freeNumber : (elsewhere announced : List Pair) (b : ℕ) → FreeNumber elsewhere announced b
   -- of every answer
   pub values : Values
+  pub numbers : Numbers
   -- of every event
   pub decodes : (e : Event) → Decodes e
+  pub statesByKinds : (e : Event) → StatesByKinds e
+  -- of every run of bytes
+  pub decodesOnly : (b : List ℕ) → DecodesOnly b
   -- of every L from 12 to 45, every MsgID of four bytes, every payload of 0 to 65,535 bytes, every join state and every buffer of at
   -- least 65,535 bytes
   pub roundTrip : (size msgId : ℕ) (payload : List ℕ) (s : Joining) (lent : List ℕ) → 12 ≤ size → size ≤ 45 → msgId < 2 ^ 32

@@ -1,11 +1,11 @@
 -- Corners of paper 01: where one rule meets another, or stops; a third table. An independent model of the paper gave the results.
 use Prim.Native.Nat.{ℕ, _-_, _*_}
 use mathlib.Core.List.{List, [], _∷_, _++_, map}
-use mathlib.Core.Bool.{false}
+use mathlib.Core.Bool.{true, false}
 use lib.ListN.{replicate}
 use Rattle.laws.specs.Lists.{collect, upFrom}
 use Rattle.rules.specs.House.{minRoom}
-use Rattle.rules.specs.Picture.{Off, Picture}
+use Rattle.rules.specs.Picture.{Off, Ok, Status, LISTED, SILENT, IGNORED, Row, Picture}
 use Rattle.rules.specs.Run.{Record}
 use Rattle.rules.specs.Listing.{Listed, found}
 use Rattle.rules.specs.Table.{hex, withRoom, gives, noOrders, refusal, entry, records, recordsFrom, listingAfter, listedAfter, lookUpAfter, pictureAfter, results, listing, listed, lookUp, picture, Edge, edge}
@@ -14,6 +14,10 @@ use Rattle.rules.specs.Cases.{times}
 -- a picture in OFF: nothing in it but pass and L
 abbrev pub offPicture : (pass size : ℕ) → Picture
 offPicture pass size = record { state = Off; pass = pass; size = size; delay = false; rows = [] }
+
+-- a row by its status and its two counts
+abbrev pub unit : Status → (bad silences : ℕ) → Row
+unit s bad silences = record { status = s; bad = bad; silences = silences }
 
 -- a listed position with its address
 abbrev pub at : (position address : ℕ) → Listed
@@ -77,14 +81,29 @@ shortAndLong =
     ∷ withRoom 8 0x4D45_05_00000001_02
     ∷ []
 
+abbrev pub barredInOk : List Record
+barredInOk =
+    withRoom 8 0x4D45_01_00000000_04
+    ∷ withRoom 11 0x4D45_04_00000001_01_0100_00
+    ∷ withRoom 11 0x4D45_04_00000002_01_0100_00
+    ∷ withRoom 13 0x4D45_04_00000003_01_0101_01_2201
+    ∷ withRoom 13 0x4D45_04_00000003_02_0102_01_3101
+    ∷ withRoom 8 0x4D45_05_00000003_03
+    ∷ withRoom 13 0x4D45_04_00000003_01_0104_01_2201
+    ∷ withRoom 13 0x4D45_04_00000003_02_0104_01_3101
+    ∷ withRoom 8 0x4D45_05_00000003_02
+    ∷ withRoom 8 0x4D45_06_00000003_00
+    ∷ withRoom 8 0x4D45_05_00000003_03
+    ∷ []
+
 abbrev pub formerAddress : List Record
 formerAddress =
     withRoom 8 0x4D45_01_00000000_04
     ∷ withRoom 11 0x4D45_04_00000001_01_0100_00
     ∷ withRoom 11 0x4D45_04_00000002_01_0100_00
     ∷ withRoom 13 0x4D45_04_00000003_01_0101_01_2200
-    ∷ withRoom 13 0x4D45_04_00000003_01_0105_01_2201
-    ∷ withRoom 13 0x4D45_04_00000003_02_0105_01_2201
+    ∷ withRoom 13 0x4D45_04_00000003_01_02FF_01_2201
+    ∷ withRoom 13 0x4D45_04_00000003_02_02FF_01_2201
     ∷ withRoom 8 0x4D45_05_00000003_02
     ∷ withRoom 8 0x4D45_05_00000003_01
     ∷ withRoom 13 0x4D45_04_00000003_03_0101_01_2201
@@ -92,13 +111,15 @@ formerAddress =
 
 abbrev pub allNumbers : List Record
 allNumbers =
-    withRoom 8 0x4D45_01_00000000_14
+    withRoom 8 0x4D45_01_00000000_15
     ∷ map (λ (x : ℕ). announces x (16 * x - 14) 16) (upFrom 1 15)
     ++ (announces 16 242 12 ∷ announces 17 1 1 ∷ [])
-    ++ withRoom 13 0x4D45_04_00000001_12_0112_01_2202
-    ∷ withRoom 13 0x4D45_04_00000001_12_0112_01_22FE
-    ∷ withRoom 17 0x4D45_04_00000001_13_0113_03_2203_3100_2204
-    ∷ withRoom 17 0x4D45_04_00000001_13_0113_03_2203_3101_2204
+    ++ withRoom 15 0x4D45_04_00000001_12_0112_02_2202_3100
+    ∷ withRoom 13 0x4D45_04_00000001_13_0113_01_22FE
+    ∷ times 3 (withRoom 15 0x4D45_04_00000001_12_0112_02_2202_3100 ∷ [])
+    ++ withRoom 15 0x4D45_04_00000001_12_0112_02_2202_3100
+    ∷ withRoom 17 0x4D45_04_00000001_14_0114_03_2203_3100_2204
+    ∷ withRoom 17 0x4D45_04_00000001_14_0114_03_2203_3101_2204
     ∷ []
 
 abbrev pub silentThenSetting : List Record
@@ -125,8 +146,10 @@ moved =
 unfoldable pub corners : List Edge
 unfolding hex times asksTo announces
 corners =
+    -- a fresh picture is OFF with pass 0; no delay runs, and there are no rows
+    edge (pictureAfter 29 []) (picture (offPicture 0 29))
     -- START is refused 4 in NOTOK and in OK, whatever N it names
-    edge
+    ∷ edge
     (records 12
     (withRoom 8 0x4D45_01_00000000_02
     ∷ withRoom 8 0x4D45_01_00000000_02
@@ -141,7 +164,7 @@ corners =
     ∷ refusal 4
     ∷ refusal 4
     ∷ []))
-    -- SHUTDOWN is taken in NOTOK too; OFF takes START alone, whatever else would be refused; the pass goes on
+    -- SHUTDOWN is taken in NOTOK too; in OFF all but START is refused 3, whatever else is wrong with it; the pass goes on
     ∷ edge
     (records 12
     (withRoom 8 0x4D45_01_00000000_02
@@ -256,7 +279,7 @@ corners =
     ∷ noOrders
     ∷ gives 14 0x4D4F_03_00000002_4D4F_08_00000002
     ∷ []))
-    -- one SILENT row below 20 makes the wait short, in front of one at 20 or behind it; LISTED rows never do
+    -- one SILENT row below 20 makes the wait short, in front of one at 20 or behind it; LISTED rows never do; the count stops at 20
     ∷ edge
     (records 12 shortAndLong)
     (results
@@ -280,6 +303,7 @@ corners =
     ∷ noOrders
     ∷ gives 7 0x4D4F_07_00000001
     ∷ []))
+    ∷ edge (pictureAfter 12 shortAndLong) (picture (record { state = Ok; pass = 1; size = 12; delay = true; rows = unit SILENT 0 2 ∷ unit SILENT 0 20 ∷ unit (LISTED 0x0103 []) 0 0 ∷ [] }))
     -- no second WAIT while a delay runs
     ∷ edge
     (records 12
@@ -326,19 +350,7 @@ corners =
     ∷ []))
     -- so do a row IGNORED by d and a barred answer, which is not counted though the row keeps another address
     ∷ edge
-    (records 12
-    (withRoom 8 0x4D45_01_00000000_04
-    ∷ withRoom 11 0x4D45_04_00000001_01_0100_00
-    ∷ withRoom 11 0x4D45_04_00000002_01_0100_00
-    ∷ withRoom 13 0x4D45_04_00000003_01_0101_01_2201
-    ∷ withRoom 13 0x4D45_04_00000003_02_0102_01_3101
-    ∷ withRoom 8 0x4D45_05_00000003_03
-    ∷ withRoom 13 0x4D45_04_00000003_01_0104_01_2201
-    ∷ withRoom 13 0x4D45_04_00000003_02_0104_01_3101
-    ∷ withRoom 8 0x4D45_05_00000003_02
-    ∷ withRoom 8 0x4D45_06_00000003_00
-    ∷ withRoom 8 0x4D45_05_00000003_03
-    ∷ []))
+    (records 12 barredInOk)
     (results
     (gives 24 0x4D4F_01_00000001_01_4D4F_01_00000001_02_4D4F_01_00000001_03
     ∷ gives 31 0x4D4F_04_00000002_4D4F_01_00000002_01_4D4F_01_00000002_02_4D4F_01_00000002_03
@@ -352,6 +364,7 @@ corners =
     ∷ gives 8 0x4D4F_01_00000003_03
     ∷ gives 7 0x4D4F_07_00000003
     ∷ []))
+    ∷ edge (pictureAfter 12 barredInOk) (picture (record { state = Ok; pass = 3; size = 12; delay = true; rows = unit (IGNORED 0x0104) 3 0 ∷ unit (IGNORED 0x0104) 0 0 ∷ unit SILENT 0 2 ∷ [] }))
     -- and two rows IGNORED together
     ∷ edge
     (records 12
@@ -421,7 +434,7 @@ corners =
     ∷ refusal 7
     ∷ gives 7 0x4D4F_03_00000003
     ∷ []))
-    -- c counts that row at a restart too, in front and behind, and no third one: two more bad announcements do
+    -- c counts that row at a restart too, in front and behind, and no third one: two more bad announcements make it IGNORED
     ∷ edge
     (records 12
     (withRoom 8 0x4D45_01_00000000_04
@@ -476,6 +489,62 @@ corners =
     ∷ noOrders
     ∷ gives 7 0x4D4F_03_00000005
     ∷ []))
+    -- c speaks of a SETTING row too, which bars nothing; its question is closed where both become IGNORED, and OK comes
+    ∷ edge
+    (records 12
+    (withRoom 8 0x4D45_01_00000000_03
+    ∷ withRoom 13 0x4D45_04_00000001_01_0101_01_2200
+    ∷ withRoom 11 0x4D45_04_00000001_02_0101_00
+    ∷ withRoom 13 0x4D45_04_00000002_01_0101_01_2200
+    ∷ withRoom 11 0x4D45_04_00000002_02_0101_00
+    ∷ withRoom 13 0x4D45_04_00000003_01_0101_01_2200
+    ∷ withRoom 11 0x4D45_04_00000003_02_0101_00
+    ∷ withRoom 8 0x4D45_05_00000003_01
+    ∷ withRoom 8 0x4D45_05_00000003_02
+    ∷ []))
+    (results
+    (gives 16 0x4D4F_01_00000001_01_4D4F_01_00000001_02
+    ∷ gives 13 0x4D4F_02_00000001_01_0101_22_00_01
+    ∷ gives 23 0x4D4F_04_00000002_4D4F_01_00000002_01_4D4F_01_00000002_02
+    ∷ gives 13 0x4D4F_02_00000002_01_0101_22_00_01
+    ∷ gives 23 0x4D4F_04_00000003_4D4F_01_00000003_01_4D4F_01_00000003_02
+    ∷ gives 13 0x4D4F_02_00000003_01_0101_22_00_01
+    ∷ gives 7 0x4D4F_03_00000003
+    ∷ refusal 7
+    ∷ refusal 7
+    ∷ []))
+    -- b and d count nobody else and take nobody with them
+    ∷ edge
+    (records 12
+    (withRoom 8 0x4D45_01_00000000_03
+    ∷ withRoom 11 0x4D45_04_00000001_02_0102_00
+    ∷ withRoom 11 0x4D45_04_00000001_01_0300_00
+    ∷ withRoom 11 0x4D45_04_00000002_02_0102_00
+    ∷ withRoom 11 0x4D45_04_00000002_01_0101_00
+    ∷ withRoom 11 0x4D45_04_00000002_01_0103_00
+    ∷ withRoom 11 0x4D45_04_00000003_02_0100_00
+    ∷ withRoom 11 0x4D45_04_00000004_02_0100_00
+    ∷ withRoom 11 0x4D45_04_00000005_02_0102_00
+    ∷ withRoom 11 0x4D45_04_00000005_01_0100_00
+    ∷ withRoom 8 0x4D45_05_00000005_02
+    ∷ withRoom 8 0x4D45_05_00000005_01
+    ∷ withRoom 13 0x4D45_04_00000005_02_0102_01_2201
+    ∷ []))
+    (results
+    (gives 16 0x4D4F_01_00000001_01_4D4F_01_00000001_02
+    ∷ noOrders
+    ∷ gives 23 0x4D4F_04_00000002_4D4F_01_00000002_01_4D4F_01_00000002_02
+    ∷ noOrders
+    ∷ gives 7 0x4D4F_03_00000002
+    ∷ gives 23 0x4D4F_04_00000003_4D4F_01_00000003_01_4D4F_01_00000003_02
+    ∷ gives 23 0x4D4F_04_00000004_4D4F_01_00000004_01_4D4F_01_00000004_02
+    ∷ gives 23 0x4D4F_04_00000005_4D4F_01_00000005_01_4D4F_01_00000005_02
+    ∷ noOrders
+    ∷ gives 7 0x4D4F_03_00000005
+    ∷ refusal 8
+    ∷ refusal 7
+    ∷ gives 10 0x4D4F_05_00000005_01_2201
+    ∷ []))
     -- d bars the announced address and frees the one that was kept; a SETTING row keeps one in NOTOK
     ∷ edge
     (records 12 formerAddress)
@@ -492,21 +561,24 @@ corners =
     ∷ []))
     ∷ edge (listingAfter 12 formerAddress) (listing (entry 3 0x0101 0x22 0x01 ∷ []))
     ∷ edge (listedAfter 12 formerAddress) (listed (at 3 0x0101 ∷ []))
-    -- FE is the last number offered; a pair without a free number is passed over and the next bad one is SET
+    -- FE is the last number offered; a pair without a free number is passed over, also after a SET, and the next bad pair has three
+    -- tries
     ∷ edge
     (records 12 allNumbers)
     (results
-    (gives 152 0x4D4F_01_00000001_01_4D4F_01_00000001_02_4D4F_01_00000001_03_4D4F_01_00000001_04_4D4F_01_00000001_05_4D4F_01_00000001_06_4D4F_01_00000001_07_4D4F_01_00000001_08_4D4F_01_00000001_09_4D4F_01_00000001_0A_4D4F_01_00000001_0B_4D4F_01_00000001_0C_4D4F_01_00000001_0D_4D4F_01_00000001_0E_4D4F_01_00000001_0F_4D4F_01_00000001_10_4D4F_01_00000001_11_4D4F_01_00000001_12_4D4F_01_00000001_13
+    (gives 160 0x4D4F_01_00000001_01_4D4F_01_00000001_02_4D4F_01_00000001_03_4D4F_01_00000001_04_4D4F_01_00000001_05_4D4F_01_00000001_06_4D4F_01_00000001_07_4D4F_01_00000001_08_4D4F_01_00000001_09_4D4F_01_00000001_0A_4D4F_01_00000001_0B_4D4F_01_00000001_0C_4D4F_01_00000001_0D_4D4F_01_00000001_0E_4D4F_01_00000001_0F_4D4F_01_00000001_10_4D4F_01_00000001_11_4D4F_01_00000001_12_4D4F_01_00000001_13_4D4F_01_00000001_14
     ∷ replicate 15 noOrders
     ++ replicate 2 noOrders
     ++ gives 13 0x4D4F_02_00000001_12_0112_22_02_FE
     ∷ noOrders
-    ∷ gives 13 0x4D4F_02_00000001_13_0113_31_00_01
+    ∷ times 3 (gives 13 0x4D4F_02_00000001_12_0112_31_00_01 ∷ [])
+    ++ noOrders
+    ∷ gives 13 0x4D4F_02_00000001_14_0114_31_00_01
     ∷ gives 7 0x4D4F_03_00000001
     ∷ []))
-    ∷ edge (lookUpAfter 12 allNumbers 0x22 0xFE) (lookUp (found 18 0x0112))
-    ∷ edge (lookUpAfter 12 allNumbers 0x31 0x01) (lookUp (found 19 0x0113))
-    -- the last pass: c ends in IGNORED for both rows, and d in IGNORED, and neither in 9; it is for either row to stand at 2
+    ∷ edge (lookUpAfter 12 allNumbers 0x22 0xFE) (lookUp (found 19 0x0113))
+    ∷ edge (lookUpAfter 12 allNumbers 0x31 0x01) (lookUp (found 20 0x0114))
+    -- the last pass: c ends in IGNORED for both rows, whichever of them stood at 2, and d in IGNORED; neither is refused 9
     ∷ edge
     (recordsFrom 12 4_294_967_292
     (withRoom 8 0x4D45_01_00000000_03
@@ -678,6 +750,20 @@ corners =
     ∷ times 3 (gives 13 0x4D4F_02_00000001_01_0101_31_00_01 ∷ [])
     ++ gives 7 0x4D4F_03_00000001
     ∷ []))
+    -- a stubborn pair is followed by the next one, with three tries of its own too
+    ∷ edge
+    (records 12
+    (withRoom 8 0x4D45_01_00000000_02
+    ∷ times 3 (withRoom 17 0x4D45_04_00000001_01_0101_03_2200_3100_4001 ∷ [])
+    ++ times 3 (withRoom 17 0x4D45_04_00000001_01_0101_03_2200_3100_4001 ∷ [])
+    ++ withRoom 17 0x4D45_04_00000001_01_0101_03_2200_3100_4001
+    ∷ []))
+    (results
+    (gives 8 0x4D4F_01_00000001_01
+    ∷ times 3 (gives 13 0x4D4F_02_00000001_01_0101_22_00_01 ∷ [])
+    ++ times 3 (gives 13 0x4D4F_02_00000001_01_0101_31_00_01 ∷ [])
+    ++ gives 7 0x4D4F_03_00000001
+    ∷ []))
     -- a good address zeroes the silence count where the row goes on to SETTING, too
     ∷ edge
     (records 12 silentThenSetting)
@@ -730,6 +816,56 @@ corners =
     ∷ noOrders
     ∷ refusal 5
     ∷ noOrders
+    ∷ []))
+    -- 5 comes before 7 and 8; 7 in NOTOK and in OK, for an ANSWER and for a NONE
+    ∷ edge
+    (records 12
+    (withRoom 8 0x4D45_01_00000000_03
+    ∷ withRoom 11 0x4D45_04_00000001_02_0100_00
+    ∷ withRoom 11 0x4D45_04_00000002_02_0100_00
+    ∷ withRoom 11 0x4D45_04_00000003_02_0100_00
+    ∷ withRoom 11 0x4D45_04_00000002_02_0102_00
+    ∷ withRoom 11 0x4D45_04_00000003_02_0102_00
+    ∷ withRoom 8 0x4D45_05_00000003_02
+    ∷ withRoom 11 0x4D45_04_00000003_01_0101_00
+    ∷ withRoom 11 0x4D45_04_00000003_02_0102_00
+    ∷ withRoom 8 0x4D45_05_00000003_02
+    ∷ withRoom 11 0x4D45_04_00000002_02_0102_00
+    ∷ withRoom 8 0x4D45_05_00000002_02
+    ∷ withRoom 8 0x4D45_05_00000002_01
+    ∷ withRoom 8 0x4D45_05_00000003_01
+    ∷ withRoom 8 0x4D45_06_00000003_00
+    ∷ []))
+    (results
+    (gives 16 0x4D4F_01_00000001_01_4D4F_01_00000001_02
+    ∷ gives 23 0x4D4F_04_00000002_4D4F_01_00000002_01_4D4F_01_00000002_02
+    ∷ gives 23 0x4D4F_04_00000003_4D4F_01_00000003_01_4D4F_01_00000003_02
+    ∷ noOrders
+    ∷ refusal 5
+    ∷ refusal 7
+    ∷ refusal 7
+    ∷ gives 7 0x4D4F_03_00000003
+    ∷ refusal 7
+    ∷ refusal 7
+    ∷ refusal 5
+    ∷ refusal 5
+    ∷ refusal 5
+    ∷ refusal 8
+    ∷ refusal 8
+    ∷ []))
+    -- sixteen pairs are four orders for L = 12
+    ∷ edge
+    (records 12
+    (withRoom 8 0x4D45_01_00000000_02
+    ∷ withRoom 11 0x4D45_04_00000001_01_0101_00
+    ∷ withRoom 43 0x4D45_04_00000001_01_0101_10_2201_2202_2203_2204_2205_2206_2207_2208_2209_220A_220B_220C_220D_220E_220F_2210
+    ∷ withRoom 11 0x4D45_04_00000001_01_0101_00
+    ∷ []))
+    (results
+    (gives 8 0x4D4F_01_00000001_01
+    ∷ gives 7 0x4D4F_03_00000001
+    ∷ gives 64 0x4D4F_05_00000001_05_2201_2202_2203_2204_2205_4D4F_05_00000001_05_2206_2207_2208_2209_220A_4D4F_05_00000001_05_220B_220C_220D_220E_220F_4D4F_05_00000001_01_2210
+    ∷ gives 64 0x4D4F_06_00000001_05_2201_2202_2203_2204_2205_4D4F_06_00000001_05_2206_2207_2208_2209_220A_4D4F_06_00000001_05_220B_220C_220D_220E_220F_4D4F_06_00000001_01_2210
     ∷ []))
     -- NCE forgets bad counts, in NOTOK and in OK
     ∷ edge

@@ -96,6 +96,20 @@ barredInOk =
     ∷ withRoom 8 0x4D45_05_00000003_03
     ∷ []
 
+abbrev pub ignoredTogether : List Record
+ignoredTogether =
+    withRoom 8 0x4D45_01_00000000_04
+    ∷ withRoom 11 0x4D45_04_00000001_01_0100_00
+    ∷ withRoom 11 0x4D45_04_00000002_01_0100_00
+    ∷ withRoom 13 0x4D45_04_00000003_01_0101_01_2201
+    ∷ withRoom 13 0x4D45_04_00000003_02_0102_01_3101
+    ∷ withRoom 8 0x4D45_05_00000003_03
+    ∷ withRoom 13 0x4D45_04_00000003_01_0102_01_2201
+    ∷ withRoom 8 0x4D45_06_00000003_00
+    ∷ withRoom 11 0x4D45_04_00000003_03_0102_00
+    ∷ withRoom 8 0x4D45_06_00000003_00
+    ∷ []
+
 abbrev pub formerAddress : List Record
 formerAddress =
     withRoom 8 0x4D45_01_00000000_04
@@ -367,18 +381,7 @@ corners =
     ∷ edge (pictureAfter 12 barredInOk) (picture (record { state = Ok; pass = 3; size = 12; delay = true; rows = unit (IGNORED 0x0104) 3 0 ∷ unit (IGNORED 0x0104) 0 0 ∷ unit SILENT 0 2 ∷ [] }))
     -- and two rows IGNORED together
     ∷ edge
-    (records 12
-    (withRoom 8 0x4D45_01_00000000_04
-    ∷ withRoom 11 0x4D45_04_00000001_01_0100_00
-    ∷ withRoom 11 0x4D45_04_00000002_01_0100_00
-    ∷ withRoom 13 0x4D45_04_00000003_01_0101_01_2201
-    ∷ withRoom 13 0x4D45_04_00000003_02_0102_01_3101
-    ∷ withRoom 8 0x4D45_05_00000003_03
-    ∷ withRoom 13 0x4D45_04_00000003_01_0102_01_2201
-    ∷ withRoom 8 0x4D45_06_00000003_00
-    ∷ withRoom 11 0x4D45_04_00000003_03_0102_00
-    ∷ withRoom 8 0x4D45_06_00000003_00
-    ∷ []))
+    (records 12 ignoredTogether)
     (results
     (gives 24 0x4D4F_01_00000001_01_4D4F_01_00000001_02_4D4F_01_00000001_03
     ∷ gives 31 0x4D4F_04_00000002_4D4F_01_00000002_01_4D4F_01_00000002_02_4D4F_01_00000002_03
@@ -391,6 +394,7 @@ corners =
     ∷ noOrders
     ∷ refusal 8
     ∷ []))
+    ∷ edge (pictureAfter 12 ignoredTogether) (picture (record { state = Ok; pass = 3; size = 12; delay = false; rows = unit (IGNORED 0x0102) 3 0 ∷ unit (IGNORED 0x0102) 1 0 ∷ unit (IGNORED 0x0102) 0 1 ∷ [] }))
     -- c: the row that keeps the address stands at 2 and takes the newcomer at 0 with it, from in front and from behind
     ∷ edge
     (records 12
@@ -544,6 +548,26 @@ corners =
     ∷ refusal 8
     ∷ refusal 7
     ∷ gives 10 0x4D4F_05_00000005_01_2201
+    ∷ []))
+    -- d is for a SETTING row as well, in NOTOK and in OK
+    ∷ edge
+    (records 12
+    (withRoom 8 0x4D45_01_00000000_02
+    ∷ withRoom 13 0x4D45_04_00000001_01_0101_01_2200
+    ∷ withRoom 13 0x4D45_04_00000001_01_0102_01_2200
+    ∷ withRoom 13 0x4D45_04_00000002_01_0102_01_2200
+    ∷ withRoom 13 0x4D45_04_00000002_01_0102_01_2201
+    ∷ withRoom 13 0x4D45_04_00000002_01_0102_01_2200
+    ∷ withRoom 13 0x4D45_04_00000002_01_0103_01_2201
+    ∷ []))
+    (results
+    (gives 8 0x4D4F_01_00000001_01
+    ∷ gives 13 0x4D4F_02_00000001_01_0101_22_00_01
+    ∷ gives 15 0x4D4F_04_00000002_4D4F_01_00000002_01
+    ∷ gives 13 0x4D4F_02_00000002_01_0102_22_00_01
+    ∷ gives 7 0x4D4F_03_00000002
+    ∷ gives 23 0x4D4F_06_00000002_01_2201_4D4F_02_00000002_01_0102_22_00_01
+    ∷ gives 15 0x4D4F_04_00000003_4D4F_01_00000003_01
     ∷ []))
     -- d bars the announced address and frees the one that was kept; a SETTING row keeps one in NOTOK
     ∷ edge

@@ -21,7 +21,7 @@ use Rattle.rules.proofs.States.{statesByKinds}
 use Rattle.rules.proofs.Values.{values}
 use Rattle.rules.proofs.Numbers.{numbers}
 use Rattle.rules.proofs.RoundTrip.{roundTrip, cuts, lengths}
-use Rattle.rules.proofs.Edges.{edgesHold, casesHold}
+use Rattle.rules.proofs.Edges.{edgesHold, casesHold, cornersHold}
 use Rattle.rules.proofs.Tight.{longestWay}
 
 legal : (size : ℕ) → minSize ≤ size → size ≤ maxSize → legalSize size ≡ true
@@ -50,5 +50,6 @@ promises =
       lengths = λ size msgId payload l h. lengths size msgId payload (legal size l h);
       edges = edgesHold;
       cases = casesHold;
+      corners = cornersHold;
       longestWay = longestWay;
     }

@@ -42,7 +42,7 @@ unfoldable pub play : ℕ → List Run.Record → List Run.Result
 unfolding playFrom
 play l rs = playFrom (Picture.fresh l) rs
 
--- the picture that the list leaves, its listing, and a look-up in it
+-- the picture that the list leaves, its listing, its listed positions, and a look-up in it
 unfoldable pub playPicture : ℕ → List Run.Record → Picture.Picture
 unfolding openPicture openRecords openSteps
 playPicture l rs = Run.after (Picture.fresh l) rs
@@ -50,6 +50,10 @@ playPicture l rs = Run.after (Picture.fresh l) rs
 unfoldable pub playListing : ℕ → List Run.Record → List Listing.Entry
 unfolding playPicture openListing
 playListing l rs = Listing.listing (playPicture l rs)
+
+unfoldable pub playListed : ℕ → List Run.Record → List Listing.Listed
+unfolding playPicture openListing
+playListed l rs = Listing.listedPositions (playPicture l rs)
 
 unfoldable pub playLookUp : ℕ → List Run.Record → Picture.Pair → Listing.Lookup
 unfolding playPicture openListing

@@ -13,5 +13,6 @@ pub mod Claims
 pub mod Table
 pub mod Edges
 pub mod Cases
+pub mod Corners
 pub mod Tight
 pub mod Promises

@@ -11,6 +11,7 @@ use Rattle.rules.specs.Claims.{Demand3, Bounds, Fits, Refusal, Carried, 
 use Rattle.rules.specs.Table.{obtained, expected}
 use Rattle.rules.specs.Edges.{edges as edgeTable}
 use Rattle.rules.specs.Cases.{cases as caseTable}
+use Rattle.rules.specs.Corners.{corners as cornerTable}
 use Rattle.rules.specs.Tight.{LongestWay}
 
 pub record Promises : Type 0 where
@@ -43,4 +44,5 @@ pub record Promises : Type 0 where
   -- by computation
   pub edges : obtained edgeTable ≡ expected edgeTable
   pub cases : obtained caseTable ≡ expected caseTable
+  pub corners : obtained cornerTable ≡ expected cornerTable
   pub longestWay : LongestWay

@@ -5,9 +5,9 @@ use lib.ListN.{replicate, take}
 use Rattle.rules.specs.House.{minRoom}
 use Rattle.rules.specs.Picture.{Picture, fresh, freshNumber}
 use Rattle.rules.specs.Run.{Record, Result}
-use Rattle.rules.specs.Listing.{Entry, Lookup}
+use Rattle.rules.specs.Listing.{Entry, Listed, Lookup}
 use Rattle.rules.specs.Telegram.{Count, Cut, Joining, Join, JoinedAll}
-use Rattle.rules.specs.Evaluate.{playFrom, playListing, playLookUp, playCount, playCut, playJoin}
+use Rattle.rules.specs.Evaluate.{playFrom, playPicture, playListing, playListed, playLookUp, playCount, playCut, playJoin}
 
 -- so many bytes of a number, the highest first: hex 8 0x4D45_01_00000000_03 is the paper's `4D45 01 00000000 03`
 unfoldable pub hex : (bytes : ℕ) → ℕ → List ℕ
@@ -31,13 +31,15 @@ refusal n = record { number = n; length = 0; bytes = [] }
 abbrev pub entry : (position address block number : ℕ) → Entry
 entry x a b n = record { position = x; address = a; pair = record { block = b; number = n } }
 
--- what can be given: a size to make a picture for; records from a fresh picture for L, or from one that stands at a pass; the listing
--- and a look-up after them; a payload to count or cut; telegrams to join, into a buffer of so many bytes 0
+-- what can be given: a size to make a picture for; records from a fresh picture for L, or from one that stands at a pass; the picture,
+-- the listing, the listed positions and a look-up after them; a payload to count or cut; telegrams to join, into a buffer of so many bytes 0
 pub data Given : Type 0 where
   toMake : (size : ℕ) → Given
   records : (size : ℕ) → List Record → Given
   recordsFrom : (size pass : ℕ) → List Record → Given
+  pictureAfter : (size : ℕ) → List Record → Given
   listingAfter : (size : ℕ) → List Record → Given
+  listedAfter : (size : ℕ) → List Record → Given
   lookUpAfter : (size : ℕ) → List Record → (block number : ℕ) → Given
   toCount : (size bytes : ℕ) → Given
   toCut : (size msgId : ℕ) (payload : List ℕ) (k room : ℕ) → Given
@@ -47,7 +49,9 @@ pub data Given : Type 0 where
 pub data Obtained : Type 0 where
   made : (number size : ℕ) → Obtained
   results : List Result → Obtained
+  picture : Picture → Obtained
   listing : List Entry → Obtained
+  listed : List Listed → Obtained
   lookUp : Lookup → Obtained
   count : Count → Obtained
   telegram : Cut → Obtained
@@ -60,11 +64,13 @@ unfoldable pub joinedOf : JoinedAll → Obtained
 joinedOf j = joined (j .answers) (j .state) (take 8 (j .buffer))
 
 unfoldable pub obtain : Given → Obtained
-unfolding playFrom playListing playLookUp playCount playCut playJoin joinedOf
+unfolding playFrom playPicture playListing playListed playLookUp playCount playCut playJoin joinedOf
 obtain (toMake size) = made (freshNumber size) (fresh size .size)
 obtain (records size rs) = results (playFrom (fresh size) rs)
 obtain (recordsFrom size pass rs) = results (playFrom (standingAt pass (fresh size)) rs)
+obtain (pictureAfter size rs) = picture (playPicture size rs)
 obtain (listingAfter size rs) = listing (playListing size rs)
+obtain (listedAfter size rs) = listed (playListed size rs)
 obtain (lookUpAfter size rs b n) = lookUp (playLookUp size rs (record { block = b; number = n }))
 obtain (toCount size n) = count (playCount size (replicate n 0))
 obtain (toCut size msgId payload k room) = telegram (playCut size msgId payload k room)

@@ -157,6 +157,39 @@ moved =
     ∷ withRoom 11 0x4D45_04_00000002_01_0102_00
     ∷ []
 
+abbrev pub silentWhileSetting : List Record
+silentWhileSetting =
+    withRoom 8 0x4D45_01_00000000_03
+    ∷ withRoom 15 0x4D45_04_00000001_01_0101_02_2201_3100
+    ∷ withRoom 8 0x4D45_05_00000001_01
+    ∷ withRoom 13 0x4D45_04_00000001_02_0101_01_2201
+    ∷ []
+
+abbrev pub silentBesideIgnored : List Record
+silentBesideIgnored =
+    withRoom 8 0x4D45_01_00000000_03
+    ∷ withRoom 11 0x4D45_04_00000001_02_0100_00
+    ∷ withRoom 11 0x4D45_04_00000002_02_0100_00
+    ∷ withRoom 11 0x4D45_04_00000003_02_0100_00
+    ∷ withRoom 8 0x4D45_05_00000003_01
+    ∷ times 18 (withRoom 8 0x4D45_06_00000003_00 ∷ withRoom 8 0x4D45_05_00000003_01 ∷ [])
+    ++ withRoom 8 0x4D45_06_00000003_00
+    ∷ withRoom 8 0x4D45_05_00000003_01
+    ∷ []
+
+abbrev pub silentThenUnasked : List Record
+silentThenUnasked =
+    withRoom 8 0x4D45_01_00000000_02
+    ∷ withRoom 8 0x4D45_05_00000001_01
+    ∷ times 18 (withRoom 8 0x4D45_06_00000001_00 ∷ withRoom 8 0x4D45_05_00000001_01 ∷ [])
+    ++ withRoom 8 0x4D45_06_00000001_00
+    ∷ withRoom 8 0x4D45_05_00000001_01
+    ∷ withRoom 13 0x4D45_04_00000001_01_0101_01_2200
+    ∷ withRoom 8 0x4D45_05_00000001_01
+    ∷ withRoom 8 0x4D45_06_00000001_00
+    ∷ withRoom 8 0x4D45_05_00000001_01
+    ∷ []
+
 unfoldable pub corners : List Edge
 unfolding hex times asksTo announces
 corners =
@@ -499,8 +532,8 @@ corners =
     (withRoom 8 0x4D45_01_00000000_03
     ∷ withRoom 13 0x4D45_04_00000001_01_0101_01_2200
     ∷ withRoom 11 0x4D45_04_00000001_02_0101_00
-    ∷ withRoom 13 0x4D45_04_00000002_01_0101_01_2200
     ∷ withRoom 11 0x4D45_04_00000002_02_0101_00
+    ∷ withRoom 13 0x4D45_04_00000002_01_0101_01_2200
     ∷ withRoom 13 0x4D45_04_00000003_01_0101_01_2200
     ∷ withRoom 11 0x4D45_04_00000003_02_0101_00
     ∷ withRoom 8 0x4D45_05_00000003_01
@@ -510,7 +543,7 @@ corners =
     (gives 16 0x4D4F_01_00000001_01_4D4F_01_00000001_02
     ∷ gives 13 0x4D4F_02_00000001_01_0101_22_00_01
     ∷ gives 23 0x4D4F_04_00000002_4D4F_01_00000002_01_4D4F_01_00000002_02
-    ∷ gives 13 0x4D4F_02_00000002_01_0101_22_00_01
+    ∷ noOrders
     ∷ gives 23 0x4D4F_04_00000003_4D4F_01_00000003_01_4D4F_01_00000003_02
     ∷ gives 13 0x4D4F_02_00000003_01_0101_22_00_01
     ∷ gives 7 0x4D4F_03_00000003
@@ -914,5 +947,251 @@ corners =
     ∷ gives 7 0x4D4F_03_00000006
     ∷ gives 15 0x4D4F_04_00000007_4D4F_01_00000007_01
     ∷ gives 15 0x4D4F_04_00000008_4D4F_01_00000008_01
+    ∷ []))
+    -- NOTOK: a, b and c for SETTING rows; c comes before d and counts the other row
+    ∷ edge
+    (records 12
+    (withRoom 8 0x4D45_01_00000000_04
+    ∷ withRoom 11 0x4D45_04_00000001_01_0100_00
+    ∷ withRoom 11 0x4D45_04_00000002_01_0100_00
+    ∷ withRoom 13 0x4D45_04_00000003_01_0101_01_2200
+    ∷ withRoom 11 0x4D45_04_00000003_01_0104_00
+    ∷ withRoom 13 0x4D45_04_00000003_02_0102_01_3100
+    ∷ withRoom 13 0x4D45_04_00000003_02_0104_01_3101
+    ∷ withRoom 8 0x4D45_05_00000003_02
+    ∷ withRoom 13 0x4D45_04_00000003_03_0103_01_4000
+    ∷ withRoom 13 0x4D45_04_00000003_03_0300_01_4001
+    ∷ withRoom 11 0x4D45_04_00000004_03_0103_00
+    ∷ []))
+    (results
+    (gives 24 0x4D4F_01_00000001_01_4D4F_01_00000001_02_4D4F_01_00000001_03
+    ∷ gives 31 0x4D4F_04_00000002_4D4F_01_00000002_01_4D4F_01_00000002_02_4D4F_01_00000002_03
+    ∷ gives 31 0x4D4F_04_00000003_4D4F_01_00000003_01_4D4F_01_00000003_02_4D4F_01_00000003_03
+    ∷ gives 13 0x4D4F_02_00000003_01_0101_22_00_01
+    ∷ noOrders
+    ∷ gives 13 0x4D4F_02_00000003_02_0102_31_00_01
+    ∷ noOrders
+    ∷ refusal 7
+    ∷ gives 13 0x4D4F_02_00000003_03_0103_40_00_01
+    ∷ gives 15 0x4D4F_04_00000004_4D4F_01_00000004_03
+    ∷ gives 7 0x4D4F_03_00000004
+    ∷ []))
+    ∷ edge
+    (records 12
+    (withRoom 8 0x4D45_01_00000000_03
+    ∷ withRoom 11 0x4D45_04_00000001_01_0101_00
+    ∷ withRoom 13 0x4D45_04_00000001_02_0102_01_3100
+    ∷ withRoom 13 0x4D45_04_00000001_02_0101_01_3101
+    ∷ withRoom 11 0x4D45_04_00000002_01_0100_00
+    ∷ withRoom 11 0x4D45_04_00000003_01_0100_00
+    ∷ withRoom 8 0x4D45_05_00000003_01
+    ∷ []))
+    (results
+    (gives 16 0x4D4F_01_00000001_01_4D4F_01_00000001_02
+    ∷ noOrders
+    ∷ gives 13 0x4D4F_02_00000001_02_0102_31_00_01
+    ∷ gives 23 0x4D4F_04_00000002_4D4F_01_00000002_01_4D4F_01_00000002_02
+    ∷ gives 23 0x4D4F_04_00000003_4D4F_01_00000003_01_4D4F_01_00000003_02
+    ∷ noOrders
+    ∷ refusal 7
+    ∷ []))
+    -- OK: b, c and a for SETTING rows
+    ∷ edge
+    (records 12
+    (withRoom 8 0x4D45_01_00000000_04
+    ∷ withRoom 11 0x4D45_04_00000001_01_0100_00
+    ∷ withRoom 11 0x4D45_04_00000002_01_0100_00
+    ∷ withRoom 11 0x4D45_04_00000003_01_0101_00
+    ∷ withRoom 11 0x4D45_04_00000003_02_0102_00
+    ∷ withRoom 11 0x4D45_04_00000003_03_0103_00
+    ∷ withRoom 11 0x4D45_04_00000003_01_0104_00
+    ∷ withRoom 13 0x4D45_04_00000003_02_0102_01_3100
+    ∷ withRoom 11 0x4D45_04_00000003_02_0300_00
+    ∷ withRoom 11 0x4D45_04_00000004_02_0102_00
+    ∷ withRoom 11 0x4D45_04_00000004_03_0103_00
+    ∷ withRoom 13 0x4D45_04_00000004_02_0102_01_3100
+    ∷ withRoom 13 0x4D45_04_00000004_02_0103_01_3101
+    ∷ withRoom 11 0x4D45_04_00000005_02_0102_00
+    ∷ withRoom 11 0x4D45_04_00000005_03_0103_00
+    ∷ withRoom 13 0x4D45_04_00000005_03_0103_01_3100
+    ∷ withRoom 13 0x4D45_04_00000005_03_0104_01_3101
+    ∷ withRoom 8 0x4D45_05_00000005_03
+    ∷ withRoom 13 0x4D45_04_00000005_02_0102_01_4000
+    ∷ withRoom 13 0x4D45_04_00000005_02_0102_01_4001
+    ∷ []))
+    (results
+    (gives 24 0x4D4F_01_00000001_01_4D4F_01_00000001_02_4D4F_01_00000001_03
+    ∷ gives 31 0x4D4F_04_00000002_4D4F_01_00000002_01_4D4F_01_00000002_02_4D4F_01_00000002_03
+    ∷ gives 31 0x4D4F_04_00000003_4D4F_01_00000003_01_4D4F_01_00000003_02_4D4F_01_00000003_03
+    ∷ noOrders
+    ∷ noOrders
+    ∷ gives 7 0x4D4F_03_00000003
+    ∷ noOrders
+    ∷ gives 13 0x4D4F_02_00000003_02_0102_31_00_01
+    ∷ gives 23 0x4D4F_04_00000004_4D4F_01_00000004_02_4D4F_01_00000004_03
+    ∷ noOrders
+    ∷ gives 7 0x4D4F_03_00000004
+    ∷ gives 13 0x4D4F_02_00000004_02_0102_31_00_01
+    ∷ gives 23 0x4D4F_04_00000005_4D4F_01_00000005_02_4D4F_01_00000005_03
+    ∷ noOrders
+    ∷ gives 7 0x4D4F_03_00000005
+    ∷ gives 13 0x4D4F_02_00000005_03_0103_31_00_01
+    ∷ noOrders
+    ∷ refusal 7
+    ∷ gives 13 0x4D4F_02_00000005_02_0102_40_00_01
+    ∷ gives 10 0x4D4F_05_00000005_01_4001
+    ∷ []))
+    -- OK: b, c and a for SILENT rows that answer unasked; the delay runs on without them
+    ∷ edge
+    (records 12
+    (withRoom 8 0x4D45_01_00000000_04
+    ∷ withRoom 11 0x4D45_04_00000001_01_0101_00
+    ∷ withRoom 8 0x4D45_05_00000001_03
+    ∷ withRoom 8 0x4D45_05_00000001_02
+    ∷ withRoom 11 0x4D45_04_00000001_02_0300_00
+    ∷ withRoom 11 0x4D45_04_00000002_01_0101_00
+    ∷ withRoom 8 0x4D45_05_00000002_03
+    ∷ withRoom 8 0x4D45_05_00000002_02
+    ∷ withRoom 11 0x4D45_04_00000002_02_0101_00
+    ∷ withRoom 11 0x4D45_04_00000003_01_0101_00
+    ∷ withRoom 8 0x4D45_05_00000003_03
+    ∷ withRoom 8 0x4D45_05_00000003_02
+    ∷ withRoom 11 0x4D45_04_00000003_02_0101_00
+    ∷ withRoom 11 0x4D45_04_00000003_03_0101_00
+    ∷ withRoom 8 0x4D45_05_00000003_01
+    ∷ withRoom 8 0x4D45_05_00000003_02
+    ∷ withRoom 8 0x4D45_05_00000003_03
+    ∷ withRoom 8 0x4D45_06_00000003_00
+    ∷ withRoom 8 0x4D45_06_00000003_00
+    ∷ []))
+    (results
+    (gives 24 0x4D4F_01_00000001_01_4D4F_01_00000001_02_4D4F_01_00000001_03
+    ∷ noOrders
+    ∷ noOrders
+    ∷ gives 14 0x4D4F_03_00000001_4D4F_07_00000001
+    ∷ gives 31 0x4D4F_04_00000002_4D4F_01_00000002_01_4D4F_01_00000002_02_4D4F_01_00000002_03
+    ∷ noOrders
+    ∷ noOrders
+    ∷ gives 14 0x4D4F_03_00000002_4D4F_07_00000002
+    ∷ gives 31 0x4D4F_04_00000003_4D4F_01_00000003_01_4D4F_01_00000003_02_4D4F_01_00000003_03
+    ∷ noOrders
+    ∷ noOrders
+    ∷ gives 14 0x4D4F_03_00000003_4D4F_07_00000003
+    ∷ noOrders
+    ∷ noOrders
+    ∷ refusal 7
+    ∷ refusal 7
+    ∷ refusal 7
+    ∷ noOrders
+    ∷ refusal 8
+    ∷ []))
+    -- OK: c and a for rows that DELAY asked
+    ∷ edge
+    (records 12
+    (withRoom 8 0x4D45_01_00000000_04
+    ∷ withRoom 11 0x4D45_04_00000001_01_0101_00
+    ∷ withRoom 8 0x4D45_05_00000001_02
+    ∷ withRoom 8 0x4D45_05_00000001_03
+    ∷ withRoom 8 0x4D45_06_00000001_00
+    ∷ withRoom 11 0x4D45_04_00000001_02_0101_00
+    ∷ withRoom 11 0x4D45_04_00000002_02_0300_00
+    ∷ withRoom 11 0x4D45_04_00000003_01_0101_00
+    ∷ withRoom 8 0x4D45_05_00000003_02
+    ∷ withRoom 8 0x4D45_05_00000003_03
+    ∷ withRoom 8 0x4D45_06_00000003_00
+    ∷ withRoom 11 0x4D45_04_00000003_02_0101_00
+    ∷ withRoom 11 0x4D45_04_00000003_03_0101_00
+    ∷ withRoom 8 0x4D45_05_00000003_01
+    ∷ withRoom 8 0x4D45_05_00000003_02
+    ∷ withRoom 8 0x4D45_05_00000003_03
+    ∷ []))
+    (results
+    (gives 24 0x4D4F_01_00000001_01_4D4F_01_00000001_02_4D4F_01_00000001_03
+    ∷ noOrders
+    ∷ noOrders
+    ∷ gives 14 0x4D4F_03_00000001_4D4F_07_00000001
+    ∷ gives 16 0x4D4F_01_00000001_02_4D4F_01_00000001_03
+    ∷ gives 31 0x4D4F_04_00000002_4D4F_01_00000002_01_4D4F_01_00000002_02_4D4F_01_00000002_03
+    ∷ gives 31 0x4D4F_04_00000003_4D4F_01_00000003_01_4D4F_01_00000003_02_4D4F_01_00000003_03
+    ∷ noOrders
+    ∷ noOrders
+    ∷ gives 14 0x4D4F_03_00000003_4D4F_07_00000003
+    ∷ gives 16 0x4D4F_01_00000003_02_4D4F_01_00000003_03
+    ∷ noOrders
+    ∷ noOrders
+    ∷ refusal 7
+    ∷ refusal 7
+    ∷ refusal 7
+    ∷ []))
+    -- NOTOK: a SETTING row that falls silent loses address and pairs, and nothing is told
+    ∷ edge
+    (records 12 silentWhileSetting)
+    (results
+    (gives 16 0x4D4F_01_00000001_01_4D4F_01_00000001_02
+    ∷ gives 13 0x4D4F_02_00000001_01_0101_31_00_01
+    ∷ noOrders
+    ∷ gives 14 0x4D4F_03_00000001_4D4F_07_00000001
+    ∷ []))
+    ∷ edge (listingAfter 12 silentWhileSetting) (listing (entry 2 0x0101 0x22 0x01 ∷ []))
+    -- a restart empties SETTING rows: another unit takes address and pair, and the renumbering begins anew
+    ∷ edge
+    (records 12
+    (withRoom 8 0x4D45_01_00000000_03
+    ∷ times 2 (withRoom 15 0x4D45_04_00000001_01_0101_02_2201_3100 ∷ [])
+    ++ withRoom 11 0x4D45_04_00000001_02_0300_00
+    ∷ withRoom 13 0x4D45_04_00000002_02_0101_01_2201
+    ∷ times 3 (withRoom 15 0x4D45_04_00000002_01_0102_02_4001_3100 ∷ [])
+    ++ withRoom 15 0x4D45_04_00000002_01_0102_02_4001_3100
+    ∷ []))
+    (results
+    (gives 16 0x4D4F_01_00000001_01_4D4F_01_00000001_02
+    ∷ times 2 (gives 13 0x4D4F_02_00000001_01_0101_31_00_01 ∷ [])
+    ++ gives 23 0x4D4F_04_00000002_4D4F_01_00000002_01_4D4F_01_00000002_02
+    ∷ noOrders
+    ∷ times 3 (gives 13 0x4D4F_02_00000002_01_0102_31_00_01 ∷ [])
+    ++ gives 7 0x4D4F_03_00000002
+    ∷ []))
+    -- pairs of SETTING rows are kept: they are bad elsewhere, and their numbers are not free
+    ∷ edge
+    (records 12
+    (withRoom 8 0x4D45_01_00000000_03
+    ∷ withRoom 15 0x4D45_04_00000001_01_0101_02_2201_3100
+    ∷ withRoom 13 0x4D45_04_00000001_02_0102_01_2200
+    ∷ withRoom 13 0x4D45_04_00000001_02_0102_01_2201
+    ∷ withRoom 13 0x4D45_04_00000001_02_0102_01_2202
+    ∷ []))
+    (results
+    (gives 16 0x4D4F_01_00000001_01_4D4F_01_00000001_02
+    ∷ gives 13 0x4D4F_02_00000001_01_0101_31_00_01
+    ∷ gives 13 0x4D4F_02_00000001_02_0102_22_00_02
+    ∷ gives 13 0x4D4F_02_00000001_02_0102_22_01_02
+    ∷ noOrders
+    ∷ []))
+    -- an IGNORED row counts below 20 and leaves the wait long
+    ∷ edge
+    (records 12 silentBesideIgnored)
+    (results
+    (gives 16 0x4D4F_01_00000001_01_4D4F_01_00000001_02
+    ∷ gives 23 0x4D4F_04_00000002_4D4F_01_00000002_01_4D4F_01_00000002_02
+    ∷ gives 23 0x4D4F_04_00000003_4D4F_01_00000003_01_4D4F_01_00000003_02
+    ∷ noOrders
+    ∷ gives 14 0x4D4F_03_00000003_4D4F_07_00000003
+    ∷ times 18 (gives 8 0x4D4F_01_00000003_01 ∷ gives 7 0x4D4F_07_00000003 ∷ [])
+    ++ gives 8 0x4D4F_01_00000003_01
+    ∷ gives 7 0x4D4F_08_00000003
+    ∷ []))
+    -- a good address zeroes the silence count of a SILENT row that answers unasked
+    ∷ edge
+    (records 12 silentThenUnasked)
+    (results
+    (gives 8 0x4D4F_01_00000001_01
+    ∷ gives 14 0x4D4F_03_00000001_4D4F_07_00000001
+    ∷ times 18 (gives 8 0x4D4F_01_00000001_01 ∷ gives 7 0x4D4F_07_00000001 ∷ [])
+    ++ gives 8 0x4D4F_01_00000001_01
+    ∷ gives 7 0x4D4F_08_00000001
+    ∷ gives 13 0x4D4F_02_00000001_01_0101_22_00_01
+    ∷ noOrders
+    ∷ gives 8 0x4D4F_01_00000001_01
+    ∷ gives 7 0x4D4F_07_00000001
     ∷ []))
     ∷ []

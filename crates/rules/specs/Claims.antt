@@ -7,7 +7,7 @@ use mathlib.Core.Logic.{_≢_}
 use mathlib.Core.Option.{Option, none, some}
 use lib.Dec.{eqb}
 use lib.ListN.{length, getD, take, drop, replicate}
-use Rattle.rules.specs.Picture.{Off, NotOk, Ok, nodesIn, Row, Pair, Picture, holds, pairsIn, keeps, bars, rowAt, openAt, fresh, freshNumber, seatAt, others}
+use Rattle.rules.specs.Picture.{Off, NotOk, Ok, nodesIn, Status, SILENT, isSilentStatus, Row, Pair, Picture, holds, pairsIn, keeps, bars, rowAt, openAt, fresh, freshNumber, seatAt, others}
 use Rattle.rules.specs.Event.{Event, START, NCE, SHUTDOWN, ANSWER, NONE, DELAY, decode, encodeEvent}
 use Rattle.rules.specs.House.{minNumber, maxNumber}
 use Rattle.rules.specs.Renumber.{isIn, freeNumber}
@@ -263,7 +263,7 @@ pub record Lengths (size msgId : ℕ) (payload : List ℕ) : Type 0 where
       × (length payload - (countOf size (length payload) - 1) * (size - 1) ≤ size - 1)
 
 -- "Beside its number a refusal gives 0 for each length, position and address"; what is given gives number 0 and its own values. N is 0
--- in OFF.
+-- in OFF. No row but a SILENT one is waited for.
 pub record Values : Type 0 where
   pub refusedRecord : (n : ℕ) → resultOf (refused n) ≡ record { number = n; length = 0; bytes = [] }
   pub takenRecord : (q : Picture) (os : List Order) → (resultOf (taken q os) .number ≡ 0) × (resultOf (taken q os) .length ≡ length (encodeAll (q .pass) os))
@@ -279,6 +279,7 @@ pub record Values : Type 0 where
   pub nodesOff : (rows : List Row) → nodesIn Off rows ≡ 0
   pub nodesNotOk : (rows : List Row) → nodesIn NotOk rows ≡ suc (length rows)
   pub nodesOk : (rows : List Row) → nodesIn Ok rows ≡ suc (length rows)
+  pub silentAlone : (s : Status) → isSilentStatus s ≡ true → s ≡ SILENT
 
 -- "A small table fixes which record kinds are taken in which ring state: OFF takes START; NOTOK and OK take all others". The kind is
 -- the third byte of a record, and START is kind 1.

@@ -20,7 +20,8 @@
  * - Lent bytes beyond those that are written never change.
  * - A picture that is handed out shows no other marks and counts than those that are named below: its state and the status of every entry
  *   are values of their enums, its delay is 0 or 1, it has at most LATHEPETAL_MAX_UNITS units, and no entry has more than
- *   LATHEPETAL_MAX_PAIRS pairs. That holds for all entries of the array, also for those behind the last unit.
+ *   LATHEPETAL_MAX_PAIRS pairs; its address, count, place and tries are 0 where they do not count. That holds for all entries of the
+ *   array, also for those behind the last unit.
  *
  * The box keeps nothing between calls: no globals, no allocation, no locks. Threads may call at the same time, each with its own picture,
  * state and buffers. Stack, with the copies that a call passes and returns: lathepetal_record up to 48 KiB, lathepetal_listing 16 KiB,
@@ -87,7 +88,7 @@ enum lathepetal_status {
 };
 
 /* The entry of one unit. Address and pairs count while it is SETTING or LISTED, the address alone while it is IGNORED, place and tries
- * while it is SETTING. */
+ * while it is SETTING; else address, count, place and tries are 0. What stands in the arrays behind the count means nothing. */
 struct lathepetal_entry {
     uint16_t address; /* logical node address */
     uint8_t status;   /* enum lathepetal_status */
@@ -222,6 +223,9 @@ LATHEPETAL_PLACE(flat_listing, addresses, 8 + LATHEPETAL_MAX_LISTED);
 LATHEPETAL_PLACE(flat_listing, blocks, 8 + 3 * LATHEPETAL_MAX_LISTED);
 LATHEPETAL_PLACE(flat_listing, numbers, 8 + 4 * LATHEPETAL_MAX_LISTED);
 LATHEPETAL_SIZE(join_state, 16);
+LATHEPETAL_PLACE(join_state, msg_id, 4);
+LATHEPETAL_PLACE(join_state, counter, 8);
+LATHEPETAL_PLACE(join_state, length, 12);
 LATHEPETAL_SIZE(fresh_outcome, 4 + sizeof(struct lathepetal_picture));
 LATHEPETAL_PLACE(fresh_outcome, picture, 4);
 LATHEPETAL_SIZE(record_outcome, 16 + sizeof(struct lathepetal_picture));

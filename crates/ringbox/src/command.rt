@@ -1,5 +1,4 @@
 // The commands of a ring script.
-use text_arguments::ANY;
 use text_arguments::Argument;
 use text_arguments::UNDERSTOOD;
 use text_arguments::UNKNOWN_WORD;
@@ -32,7 +31,7 @@ fn bare(line: &[u8], at: usize, command: Command) -> Command {
 }
 
 fn fresh(line: &[u8], at: usize) -> Command {
-    let l = Argument::from(at).decimal(line, ANY);
+    let l = Argument::from(at).number(line);
     let end = l.end(line);
     if end.reason != UNDERSTOOD {
         return Command::NotUnderstood(end.reason);

@@ -8,7 +8,7 @@ ghost use Rattle.rules.specs.Renumber.{placeOf, triesOf};
 ghost use Rattle.rules.specs.Step.{silenced, asked, ignored, counted, atLimit, emptied};
 ghost use Rattle.wire_pairs.specs.View.{pairsOf};
 ghost use Rattle.row_entry.specs.View.{statusOf, rowOf, isListed};
-ghost use Rattle.row_entry.specs.Marks.{lastStatus, Marked};
+ghost use Rattle.row_entry.specs.Marks.{waitingMark, settingMark, listedMark, silentMark, ignoredMark, Marked};
 use sizes::MAX_PAIRS;
 use sizes::MAX_UNITS;
 use wire_address::LogicalNodeAddress;
@@ -68,7 +68,7 @@ impl NodeEntry {
     // An entry that keeps no pairs.
     fn bare(status: u8, address: LogicalNodeAddress, bad: u8, silences: u8) -> Self
         ensures { λ r. ⌜ (_≡_ {A = Row} (rowOf r) (record { status = statusOf status (address .0) [] 0 0; bad = bad; silences = silences }))
-            × (status ≤ lastStatus → Marked r) ⌝ }
+            × (status ≤ ignoredMark → (status ≡ waitingMark → address .0 ≡ 0) → (status ≡ silentMark → address .0 ≡ 0) → Marked r) ⌝ }
     {
         NodeEntry {
             address,
@@ -114,7 +114,7 @@ impl NodeEntry {
         bad: u8,
     ) -> Self
         ensures { λ r. ⌜ (_≡_ {A = Row} (rowOf r) (record { status = statusOf status (address .0) (pairsOf pairs) place tries; bad = bad; silences = 0 }))
-            × (status ≤ lastStatus → Marked r) ⌝ }
+            × (status ≡ settingMark → Marked r) × (status ≡ listedMark → place ≡ 0 → tries ≡ 0 → Marked r) ⌝ }
     {
         let blocks = pairs.blocks;
         let numbers = pairs.numbers;

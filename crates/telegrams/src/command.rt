@@ -1,6 +1,5 @@
 // The commands of a telegram script.
 use sizes::MAX_PAYLOAD;
-use text_arguments::ANY;
 use text_arguments::Argument;
 use text_arguments::UNDERSTOOD;
 use text_arguments::UNKNOWN_WORD;
@@ -51,7 +50,7 @@ fn payload(line: &[u8], at: usize, bytes: &mut [u8]) -> Command {
 
 fn fill(line: &[u8], at: usize) -> Command {
     let n = Argument::from(at).decimal(line, BENCH_PAYLOAD as u32);
-    let seed = n.decimal(line, ANY);
+    let seed = n.number(line);
     let end = seed.end(line);
     if end.reason != UNDERSTOOD {
         return Command::NotUnderstood(end.reason);
@@ -63,7 +62,7 @@ fn fill(line: &[u8], at: usize) -> Command {
 }
 
 fn count(line: &[u8], at: usize) -> Command {
-    let l = Argument::from(at).decimal(line, ANY);
+    let l = Argument::from(at).number(line);
     let end = l.end(line);
     if end.reason != UNDERSTOOD {
         return Command::NotUnderstood(end.reason);
@@ -72,9 +71,9 @@ fn count(line: &[u8], at: usize) -> Command {
 }
 
 fn cut(line: &[u8], at: usize) -> Command {
-    let l = Argument::from(at).decimal(line, ANY);
+    let l = Argument::from(at).number(line);
     let msg_id = l.hex(line, MSG_ID_DIGITS);
-    let number = msg_id.decimal(line, ANY);
+    let number = msg_id.number(line);
     let room = number.decimal(line, BENCH_PAYLOAD as u32);
     let end = room.end(line);
     if end.reason != UNDERSTOOD {
@@ -89,7 +88,7 @@ fn cut(line: &[u8], at: usize) -> Command {
 }
 
 fn cut_all(line: &[u8], at: usize) -> Command {
-    let l = Argument::from(at).decimal(line, ANY);
+    let l = Argument::from(at).number(line);
     let msg_id = l.hex(line, MSG_ID_DIGITS);
     let end = msg_id.end(line);
     if end.reason != UNDERSTOOD {
@@ -110,7 +109,7 @@ fn rejoin(line: &[u8], at: usize) -> Command {
 }
 
 fn join(line: &[u8], at: usize, bytes: &mut [u8]) -> Command {
-    let l = Argument::from(at).decimal(line, ANY);
+    let l = Argument::from(at).number(line);
     let room = l.decimal(line, MAX_PAYLOAD as u32);
     let read = room.bytes(line, bytes);
     if read.reason != UNDERSTOOD {

@@ -34,6 +34,10 @@ wrongHex = 7
 abbrev pub wordTooMany : ℕ
 wordTooMany = 8
 
+-- the limit of a number that has no other
+abbrev pub anyNumber : ℕ
+anyNumber = 4294967295
+
 -- a value and the place behind it; none, for a reason
 abbrev pub found : ℕ → ℕ → Argument
 found value at = record { reason = understood; value = value; at = at }

@@ -5,7 +5,7 @@ ghost use lib.ListN.{length, set};
 ghost use lib.Seq.{sets};
 ghost use Rattle.laws.specs.Buffers.{Wrote};
 ghost use Rattle.text_words.specs.Text.{bytesOf};
-ghost use Rattle.text_arguments.specs.Reading.{found, none, decimalAt, hexAt, groupReason, bytesAt, bytesStored, endAt};
+ghost use Rattle.text_arguments.specs.Reading.{anyNumber, found, none, decimalAt, hexAt, groupReason, bytesAt, bytesStored, endAt};
 use text_words::numbers;
 use text_words::numbers::DecimalWord;
 use text_words::words;
@@ -32,7 +32,7 @@ pub const WORD_TOO_MANY: u8 = 8;
 pub const TOO_LONG: u8 = 9;
 
 // The limit of a number that has no other.
-pub const ANY: u32 = 4294967295;
+const ANY: u32 = 4294967295;
 
 // A value, why there is none, and the place behind it.
 pub struct Argument {
@@ -85,6 +85,13 @@ impl Argument {
                 at: end,
             },
         }
+    }
+
+    // The next word as a decimal number of 32 bits.
+    pub fn number(self, line: &[u8]) -> Argument
+        ensures { λ r. ⌜ r ≡ decimalAt (now (line .entry)) anyNumber self ⌝ }
+    {
+        self.decimal(line, ANY)
     }
 
     // The next word as this many hexadecimal digits.

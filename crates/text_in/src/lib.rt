@@ -1,5 +1,5 @@
 // Standard input by lines. The contracts give every result and every lent buffer. They cannot speak of what a call of the system
-// reads, so one thing is open: the bytes that a read delivers.
+// reads, so these are open: that a read is made, and the bytes that it delivers.
 ghost use mathlib.Core.Path.{_≡_};
 ghost use Prim.Native.Nat.{_+_, min};
 ghost use Rattle.text_in.specs.Lines.{maxLine, unread, keptAt, Filled, NextLine};

@@ -1,5 +1,5 @@
 // Standard output through a buffer. The contracts give every result and every lent buffer. They cannot speak of what a call of the
-// system writes, so one thing is open: whether a write fails.
+// system writes, so these are open: that what waits is what is written, and whether a write fails.
 ghost use mathlib.Core.Path.{_≡_};
 ghost use Prim.Native.Nat.{_≤_, _<_};
 ghost use lib.ListN.{length};

@@ -8,7 +8,7 @@ use Rattle.row_entry.proofs.NodeEntry.absent.Tie as tie
 
 returns : tie.Need-returns
 unfolding noRow statusOf
-returns c = (c .bare .ensures .0, c .bare .ensures .1 (omega arith))
+returns c = (c .bare .ensures .0, c .bare .ensures .1 (omega arith) (λ e. absurd (omega (arith, e))) (λ e. absurd (omega (arith, e))))
 
 pub absent-spec : {M : Type 1} → statement M
 absent-spec =

@@ -9,7 +9,7 @@ use Rattle.row_entry.proofs.NodeEntry.bare.Tie as tie
 
 returns : tie.Need-returns
 unfolding rowOf pairsFrom firsts
-returns c = (refl, λ h. record { status = h; count = omega arith })
+returns c = (refl, λ h w s. record { status = h; count = omega arith; waiting = w; silent = s; pairless = λ m l. refl; settled = λ m. (refl, refl) })
 
 pub bare-spec : {M : Type 1} → statement M
 bare-spec = tie.close (tie.spec returns)

@@ -9,7 +9,7 @@ use Rattle.row_entry.proofs.NodeEntry.ignored.Tie as tie
 
 returns : tie.Need-returns
 unfolding ignored withStatus statusOf rowOf
-returns c = (c .bare .ensures .0, c .bare .ensures .1 (omega arith))
+returns c = (c .bare .ensures .0, c .bare .ensures .1 (omega arith) (λ e. absurd (omega (arith, e))) (λ e. absurd (omega (arith, e))))
 
 pub ignored-spec : {M : Type 1} → statement M
 ignored-spec =

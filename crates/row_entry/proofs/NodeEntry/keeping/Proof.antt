@@ -15,7 +15,8 @@ returns c =
     let start = c .before .before .before in
     let e = ap (λ (k : ℕ). pairsFrom k (start .args .pairs .blocks) (start .args .pairs .numbers)) (c .len .ensures) ∙ pairs-min _ (start .args .pairs .blocks) (start .args .pairs .numbers) (search needs) (search needs) (start .args .pairs .count) in (
       (λ i. record { status = statusOf (start .args .status) (start .args .address .0) (e i) (start .args .place) (start .args .tries); bad = start .args .bad; silences = 0 }),
-      λ h. record { status = h; count = omega (arith, c .len .ensures) },
+      λ h. record { status = omega (arith, h); count = omega (arith, c .len .ensures); waiting = λ w. absurd (omega (arith, h, w)); silent = λ w. absurd (omega (arith, h, w)); pairless = λ m l. absurd (m h); settled = λ m. absurd (m h) },
+      λ h p t. record { status = omega (arith, h); count = omega (arith, c .len .ensures); waiting = λ w. absurd (omega (arith, h, w)); silent = λ w. absurd (omega (arith, h, w)); pairless = λ m l. absurd (l h); settled = λ m. (p, t) },
     )
 
 pub keeping-spec : {M : Type 1} → statement M

@@ -17,7 +17,7 @@ use Rattle.rules.specs.Picture.{Pair, samePair, holds, Row, Picture, wit
 use Rattle.rules.specs.Event.{Event, START, NCE, SHUTDOWN, ANSWER, NONE, DELAY, decode}
 use Rattle.rules.specs.Order.{Order, ASK, OK, NOTOK, NEW, INVALID, WAIT-SHORT, WAIT-LONG}
 use Rattle.rules.specs.Renumber.{Judged, isGood, judge, goods, freeNumber, Renumbering, finished, renumbers, offer, renumberFrom, renumber, placeOf, triesOf}
-use Rattle.rules.specs.Step.{Change, asks, scan, begin, shutDown, changeRows, delayEnds, setOrder, judgedFor, renumberingFor, listedRow, keepAnswer}
+use Rattle.rules.specs.Step.{Change, asks, scan, begin, rescan, shutDown, changeRows, delayEnds, setOrder, judgedFor, renumberingFor, listedRow, keepAnswer}
 use Rattle.rules.specs.Ending.{becomesOk, waits, okOrder, tell, packed, lost, gained, tellRows, told, waitOrder, settled, ended, endOrders, ordersOf, pictureOf}
 use Rattle.rules.specs.Run.{Outcome, Record, left, Sent, sentWith, sentBy}
 use Rattle.rules.specs.Claims.{ifTaken, accepted, SetAimed, Aimed, SetsAimed}
@@ -204,11 +204,12 @@ set-aimed p c x a ps s = go (renumberingFor t ps) (drop-offers (renumberingFor t
     go (renumbers i u b n) h = all-cons (aimed b n (sym (judged-any b elsewhere [] ps) ∙ h .0) (free-number elsewhere ps (b .block) n (h .1))) all-nil
 
 aimed-ways : (p : Picture) → Ways p (λ (e : Event) (c : Change). All (Aimed (some e) (pictureOf c)) (ordersOf p c))
-unfolding begin scan shutDown changeRows delayEnds keepAnswer
+unfolding begin scan rescan shutDown changeRows delayEnds keepAnswer
 aimed-ways p =
     record {
       starts = λ n l. aimed (START n) (begin [] n p) (asks-aimed (START n) (begin [] n p) isOpen _) all-nil;
-      rescans = λ n l. aimed (NCE n) (begin (NOTOK ∷ []) n p) (all-cons tt (asks-aimed (NCE n) (begin (NOTOK ∷ []) n p) isOpen _)) all-nil;
+      rescans = λ n l i. aimed (NCE n) (begin (NOTOK ∷ []) n p) (all-cons tt (asks-aimed (NCE n) (begin (NOTOK ∷ []) n p) isOpen _)) all-nil;
+      rescansInOk = λ n l i. aimed (NCE n) (rescan n p) (asks-aimed (NCE n) (rescan n p) isOpen _) all-nil;
       shuts = aimed SHUTDOWN (shutDown p) all-nil all-nil;
       silences = λ c x s o. aimed (NONE c x) _ all-nil all-nil;
       delays = λ c d. aimed (DELAY c) (delayEnds p) (asks-aimed (DELAY c) (delayEnds p) isSilent _) all-nil;

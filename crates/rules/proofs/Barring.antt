@@ -13,7 +13,7 @@ use Rattle.laws.specs.Alls.{All, all-nil, all-cons, all-head, all-tail, all-lef
 use Rattle.rules.specs.Picture.{Pair, Status, WAITING, SETTING, LISTED, SILENT, IGNORED, Row, Picture, withStatus, withRows, withState, withDelay, Kept, keptBy, hasAddress, keeps, inRange, barsStatus, bars, isSilent, isIgnored, isIgnoredStatus, newRow, noRow, rowAt, Seat, seatAt, others, put, fresh}
 use Rattle.rules.specs.Event.{Event}
 use Rattle.rules.specs.Renumber.{Renumbering, finished, renumbers, goods}
-use Rattle.rules.specs.Step.{Change, scanned, scan, begin, shutDown, changeRows, silenced, asked, delayEnds, ignored, counted, onCounted, emptied, statusAfter, judgedFor, renumberingFor, listedRow, keepAnswer}
+use Rattle.rules.specs.Step.{Change, scanned, scan, begin, rescanned, rescan, shutDown, changeRows, silenced, asked, delayEnds, ignored, counted, onCounted, emptied, statusAfter, judgedFor, renumberingFor, listedRow, keepAnswer}
 use Rattle.rules.specs.Ending.{settled, ended, pictureOf}
 use Rattle.rules.specs.Run.{Record, Sent}
 use Rattle.rules.specs.Claims.{pictureAt, Unbarred}
@@ -195,11 +195,12 @@ module _ (p : Picture) (h : Pairwise BothClear (p .rows)) where
   put-clear c x s r k = pairwise-in turn (seatAt (p .rows) x .front) r (seatAt (p .rows) x .back) k (others-clear c x s)
 
   clear-ways : Ways p (λ (e : Event) (c : Change). Pairwise BothClear (c .picture .rows))
-  unfolding begin scan scanned shutDown changeRows withRows delayEnds keepAnswer
+  unfolding begin scan scanned rescan rescanned shutDown changeRows withRows delayEnds keepAnswer
   clear-ways =
       record {
         starts = λ n l. pairwise-replicate (n - 1) newRow (idle-clear newRow newRow idle-new);
-        rescans = λ n l. pairwise-replicate (n - 1) newRow (idle-clear newRow newRow idle-new);
+        rescans = λ n l i. pairwise-replicate (n - 1) newRow (idle-clear newRow newRow idle-new);
+        rescansInOk = λ n l i. pairwise-replicate (n - 1) newRow (idle-clear newRow newRow idle-new);
         shuts = pairwise-nil;
         silences = λ c x s o. put-clear c x s _ (all-of _ (λ t. idle-clear _ t (idle-silenced _)));
         delays = λ c d. pairwise-each rests-clear h (each-map Rests asked rests-asked (p .rows));

@@ -1,5 +1,5 @@
--- The measure of demand 3: every answer and every silence that is taken in NOTOK lowers it.
-use Prim.Native.Nat.{ℕ, suc, _+_, _-_, _*_, _<_, _≤_, min}
+-- The measure of demand 3: every answer and every silence for an open question lowers it.
+use Prim.Native.Nat.{ℕ, zero, suc, _+_, _-_, _*_, _<_, _≤_, min}
 use mathlib.Core.Path.{_≡_, refl, sym, _∙_, ap, ap₂, subst}
 use mathlib.Core.Bool.{Bool, true, false, cond}
 use mathlib.Core.List.{List, [], _∷_, _++_, map}
@@ -17,11 +17,11 @@ use Rattle.laws.specs.Bools.{clash, cond-false}
 use Rattle.laws.specs.Alls.{all-of, Each, each-map, each-length}
 use Rattle.laws.specs.Sums.{total, total-bound, total-each, total-lower, total-seat, total-replicate}
 use Rattle.rules.specs.Event.{Event}
-use Rattle.rules.specs.Claims.{isReply}
+use Rattle.rules.specs.Claims.{Allowed}
 use Rattle.rules.specs.House.{maxPairs, maxTries, maxBad}
-use Rattle.rules.specs.Picture.{NotOk, Pair, Status, WAITING, SETTING, LISTED, SILENT, IGNORED, Row, Picture, withStatus, withRows}
-use Rattle.rules.specs.Picture.{isOpen, isOpenStatus, isIgnored, isIgnoredStatus, newRow, Seat, seatAt, others, put, pairsIn}
-use Rattle.rules.specs.Step.{Change, change, respond, begin, scan, scanned, shutDown, changeRows, delayEnds, keepAnswer, silenced, ignored, counted, atLimit, onCounted, emptied, statusAfter, judgedFor, renumberingFor, listedRow}
+use Rattle.rules.specs.Picture.{Pair, Status, WAITING, SETTING, LISTED, SILENT, IGNORED, Row, Picture, withStatus, withRows}
+use Rattle.rules.specs.Picture.{isOpen, isOpenStatus, isIgnored, isIgnoredStatus, newRow, rowAt, openAt, Seat, seatAt, others, put, pairsIn}
+use Rattle.rules.specs.Step.{Change, change, respond, begin, scan, scanned, rescan, rescanned, shutDown, changeRows, delayEnds, keepAnswer, silenced, ignored, counted, atLimit, onCounted, emptied, statusAfter, judgedFor, renumberingFor, listedRow}
 use Rattle.rules.specs.Renumber.{Judged, judge, Renumbering, goods, freeNumber, finished, renumbers, offer, renumberFrom, renumber, placeOf, triesOf}
 
 -- how many answers a question can still take in this pass
@@ -248,24 +248,29 @@ module _ (p : Picture) where
       → level rows < level (p .rows)
   onto c x s rows h = subst (λ (l : List Row). level rows < level l) (sym (s .split)) h
 
-  falls-ways : Ways p (λ (e : Event) (c : Change). isReply e ≡ true → Formed e → p .state ≡ NotOk → level (c .picture .rows) < level (p .rows))
-  unfolding begin scan scanned shutDown changeRows withRows delayEnds keepAnswer isReply
+  open-here : (x : ℕ) → openAt p x ≡ true → isOpen (seatAt (p .rows) x .row) ≡ true
+  unfolding openAt rowAt seatAt
+  open-here zero h = h
+  open-here (suc i) h = h
+
+  falls-ways : Ways p (λ (e : Event) (c : Change). Allowed p (some e) → Formed e → level (c .picture .rows) < level (p .rows))
+  unfolding changeRows withRows keepAnswer scan scanned
   falls-ways =
       record {
-        starts = λ n l h. clash h refl;
-        rescans = λ n l h. clash h refl;
-        shuts = λ h. clash h refl;
-        silences = λ c x s o h f n. onto c x s _ (put-falls _ _ (silenced-work _ o) (lower-silenced _ (s .heard)));
-        delays = λ c d h. clash h refl;
-        bars = λ c x a ps s o z h f n. onto c x s _ (put-falls _ _ (ignored-work a _ _ (o n)) (lower-ignored a _ _ .1));
-        ignores = λ c x a ps s o counts k z h f n. onto c x s _ (ignoring-falls _ a counts (o n));
-        restarts = λ c x a ps s o counts b l h f n. onto c x s _ (restarting-falls _ counts (o n) (s .heard) b);
-        keeps = λ c x a ps s o k h f n. onto c x s _ (put-falls _ _ (answer-lowers (seatAt (p .rows) x) a ps f (o n)) (lower-listed (seatAt (p .rows) x) a ps (s .heard)));
+        starts = λ n l h. absurd h;
+        rescans = λ n l i h. absurd h;
+        rescansInOk = λ n l i h. absurd h;
+        shuts = λ h. absurd h;
+        silences = λ c x s o h f. onto c x s _ (put-falls _ _ (silenced-work _ o) (lower-silenced _ (s .heard)));
+        delays = λ c d h. absurd h;
+        bars = λ c x a ps s o z h f. onto c x s _ (put-falls _ _ (ignored-work a _ _ (open-here x h)) (lower-ignored a _ _ .1));
+        ignores = λ c x a ps s o counts k z h f. onto c x s _ (ignoring-falls _ a counts (open-here x h));
+        restarts = λ c x a ps s o counts b l h f. onto c x s _ (restarting-falls _ counts (open-here x h) (s .heard) b);
+        keeps = λ c x a ps s o k h f. onto c x s _ (put-falls _ _ (answer-lowers (seatAt (p .rows) x) a ps f (open-here x h)) (lower-listed (seatAt (p .rows) x) a ps (s .heard)));
       }
 
-  -- an answer or a silence that is taken in NOTOK lowers the level
-  pub falls : (e : Event) (c : Change) → respond p e ≡ change c → isReply e ≡ true → Formed e → p .state ≡ NotOk
-      → level (c .picture .rows) < level (p .rows)
+  -- an answer or a silence that is taken for an open question lowers the level
+  pub falls : (e : Event) (c : Change) → respond p e ≡ change c → Allowed p (some e) → Formed e → level (c .picture .rows) < level (p .rows)
   falls = every-taken p _ falls-ways
 
 -- where a ring of N positions begins

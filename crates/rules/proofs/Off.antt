@@ -7,7 +7,7 @@ use lib.ListN.{take}
 use Rattle.laws.specs.Bools.{clash}
 use Rattle.rules.specs.Picture.{State, Off, NotOk, Ok, Picture, withRows, withState, withDelay, fresh}
 use Rattle.rules.specs.Event.{Event, ANSWER, NONE, DELAY}
-use Rattle.rules.specs.Step.{Change, scanned, scan, begin, shutDown, changeRows, delayEnds, keepAnswer, takes}
+use Rattle.rules.specs.Step.{Change, scanned, scan, begin, rescanned, rescan, shutDown, changeRows, delayEnds, keepAnswer, takes}
 use Rattle.rules.specs.Ending.{becomesOk, settled, ended, pictureOf}
 use Rattle.rules.specs.Run.{Record, Sent}
 use Rattle.rules.specs.Listing.{entriesFrom, listing}
@@ -28,11 +28,12 @@ off-takes : {X : Type 0} (p : Picture) (e : Event) → p .state ≡ Off → take
 off-takes p e s n t = clash (subst (λ (z : State). takes z e ≡ true) s t) n
 
 off-ways : (p : Picture) → Ways p (λ (e : Event) (c : Change). takes (p .state) e ≡ true → Bare (c .picture))
-unfolding begin scan scanned shutDown changeRows withRows delayEnds keepAnswer isOff takes
+unfolding begin scan scanned rescan rescanned shutDown changeRows withRows delayEnds keepAnswer isOff takes
 off-ways p =
     record {
       starts = λ n l t s. clash (ap isOff s) refl;
-      rescans = λ n l t s. clash (ap isOff s) refl;
+      rescans = λ n l i t s. clash (ap isOff s) refl;
+      rescansInOk = λ n l i t s. clash (ap isOff s) refl;
       shuts = λ t s. refl;
       silences = λ c x i o t s. off-takes p (NONE c x) s refl t;
       delays = λ c d t s. off-takes p (DELAY c) s refl t;

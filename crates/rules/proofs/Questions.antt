@@ -17,7 +17,7 @@ use Rattle.rules.specs.Picture.{Pair, WAITING, Row, Picture, withStatus,
 use Rattle.rules.specs.Event.{Event}
 use Rattle.rules.specs.Order.{Order, ASK, NOTOK}
 use Rattle.rules.specs.Renumber.{Renumbering, finished, renumbers, goods}
-use Rattle.rules.specs.Step.{Change, asks, scanned, scan, begin, shutDown, changeRows, silenced, asked, delayEnds, ignored, counted, statusAfter, setOrder, judgedFor, renumberingFor, listedRow, keepAnswer}
+use Rattle.rules.specs.Step.{Change, asks, scanned, scan, begin, rescanned, rescan, shutDown, changeRows, silenced, asked, delayEnds, ignored, counted, statusAfter, setOrder, judgedFor, renumberingFor, listedRow, keepAnswer}
 use Rattle.rules.specs.Claims.{isFor}
 use Rattle.rules.proofs.Ways.{Ways, Seated}
 use Rattle.rules.proofs.Sound.{each-put, each-counted}
@@ -82,12 +82,11 @@ unfolding rowAt
 closes-at rows rows′ zero h o = o
 closes-at rows rows′ (suc i) h o = each-at noRow noRow i (closes-same noRow) h o
 
--- the scan asks every row that it leaves open
-scan-asks : (p : Picture) (first : List Order) (rows : List Row) (x : ℕ) → isOpen (rowAt rows x) ≡ true
-    → asksFor (scan first rows p .first ++ scan first rows p .set) x ≡ true
-unfolding scan rowAt
-scan-asks p first rows zero h = clash h no-row-open
-scan-asks p first rows (suc i) h =
+-- a scan asks every row that it leaves open
+open-asks : (first : List Order) (rows : List Row) (x : ℕ) → isOpen (rowAt rows x) ≡ true → asksFor ((first ++ asks isOpen 1 rows) ++ []) x ≡ true
+unfolding rowAt
+open-asks first rows zero h = clash h no-row-open
+open-asks first rows (suc i) h =
     any-left (isFor (suc i)) (first ++ asks isOpen 1 rows) []
     (any-right (isFor (suc i)) first (asks isOpen 1 rows) (rw one-add at (asks-reach isOpen 1 rows i no-row-open h)))
 
@@ -159,16 +158,17 @@ module _ (p : Picture) where
           (subst (λ (r : Row). isOpen r ≡ true) (rows-beside (seatAt (p .rows) x) _ _ y (λ f. eqb-false y x e (f ∙ sym (s .here)))) o))
 
   pub asked-ways : Ways p (λ (e : Event) (c : Change). (x : ℕ) → openAt (c .picture) x ≡ true → Asked p c x)
-  unfolding begin scan scanned shutDown changeRows withRows delayEnds keepAnswer openAt
+  unfolding begin scan scanned rescan rescanned shutDown changeRows withRows delayEnds keepAnswer openAt
   asked-ways =
       record {
-        starts = λ n l x o. inl (scan-asks p [] _ x o);
-        rescans = λ n l x o. inl (scan-asks p (NOTOK ∷ []) _ x o);
+        starts = λ n l x o. inl (open-asks [] _ x o);
+        rescans = λ n l i x o. inl (open-asks (NOTOK ∷ []) _ x o);
+        rescansInOk = λ n l i x o. inl (open-asks [] _ x o);
         shuts = λ x o. clash o (nothing-open x);
         silences = λ c x s i y o. inr (refl, onto c x s _ (each-put Closes closes-same _ _ (closes-silenced _)) y o);
         delays = λ c d x o. same-pass (delay-asks p x o);
         bars = λ c x a ps s i z y o. inr (refl, onto c x s _ (each-put Closes closes-same _ _ (closes-ignored a _ _)) y o);
         ignores = λ c x a ps s i counts k z y o. inr (refl, onto c x s _ (each-counted Closes closes-same counts _ (λ r e. closes-ignored a r (counted r)) _ (closes-ignored a _ _)) y o);
-        restarts = λ c x a ps s i counts b l y o. inl (scan-asks p (NOTOK ∷ []) _ y o);
+        restarts = λ c x a ps s i counts b l y o. inl (open-asks (NOTOK ∷ []) _ y o);
         keeps = λ c x a ps s i k y o. same-pass (keep-asks c x a _ ps s y o);
       }

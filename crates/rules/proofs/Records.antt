@@ -16,7 +16,7 @@ use Rattle.rules.specs.Claims.{pictureAt, recordAt, Fits, Bounds, Refusa
 use Rattle.rules.proofs.Ways.{Offered, was-refused, was-taken, offered-cases}
 use Rattle.rules.proofs.Sound.{Sound, Proper, RowProper}
 use Rattle.rules.proofs.Decode.{formed}
-use Rattle.rules.proofs.Sizes.{encode-all-size, largest, size-largest, row-few}
+use Rattle.rules.proofs.Sizes.{encode-all-size, largest, size-largest, row-few, listing-size}
 use Rattle.rules.proofs.Demand3.{running-at}
 
 -- a sound picture writes no more than the largest event
@@ -44,15 +44,6 @@ unfolding left written sentBy lent
 refusal p r = record { unchanged = λ n h. (ap (left p) h, ap sentBy h, λ buffer. ap (lent buffer) h) }
 
 -- the sizes of a running picture
-listing-size : (x : ℕ) (rows : List Row) → All RowProper rows → length (entriesFrom x rows) ≤ length rows * maxPairs
-unfolding entriesFrom entriesOf
-listing-size x [] h = omega arith
-listing-size x (r ∷ rows) h = let e = listing-size (suc x) rows (all-tail h) in let f = one (keptIn r) (all-head h) in rw length-append (omega arith)
-  where
-    one : (k : Kept) → Proper k → length (entriesOf x k) ≤ maxPairs
-    one nothing h = omega arith
-    one (kept a ps) h = rw length-map (h .1)
-
 no-row-proper : RowProper noRow
 unfolding noRow keptBy
 no-row-proper = tt

@@ -61,7 +61,7 @@ orders-ask p c x h = go (or-cases (asksFor (c .first) x) (asksFor (c .set) x) (s
     f = isFor x
 
     t : List Order
-    t = told p (c .picture)
+    t = told (c .packing) p (c .picture)
 
     go : (asksFor (c .first) x ≡ true) ⊎ (asksFor (c .set) x ≡ true) → asksFor (ordersOf p c) x ≡ true
     go (inl e) = any-left f (c .first ++ t ++ c .set) (endOrders (c .picture)) (any-left f (c .first ++ t) (c .set) (any-left f (c .first) t e))

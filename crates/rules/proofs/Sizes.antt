@@ -1,4 +1,4 @@
--- The orders of one event fit 511 bytes.
+-- The orders of one event fit the largest event, which has 4,136 bytes.
 use Prim.Native.Nat.{ℕ, zero, suc, _+_, _-_, _*_, _/_, _≤_, min}
 use mathlib.Core.Path.{_≡_, refl, sym, _∙_, ap, ap₂, subst}
 use mathlib.Core.Bool.{Bool, true, false, cond, not, _&&_, _||_}
@@ -7,19 +7,20 @@ use mathlib.Core.Logic.{_⊎_, inl, inr}
 use native.Mathlib.Omega.{arith}
 use borrow.Author.Tests.{eqb-true}
 use lib.Dec.{ltb}
-use lib.ListN.{length, take, drop, length-append, length-take, length-drop, length-replicate, length-map}
+use lib.ListN.{length, take, drop, length-append, length-take, length-drop, replicate, length-replicate, length-map}
 use Rattle.laws.specs.Lists.{any, select, collect}
 use Rattle.laws.specs.Bools.{clash, decide, and-none, or-cases, cond-true, cond-false, or-true-left, or-true-right}
 use Rattle.laws.specs.Alls.{All, all-nil, all-cons, all-head, all-tail, all-map, all-seat, all-out, Pairwise, pairwise-head, pairwise-tail, pairwise-out, any-none}
 use Rattle.laws.specs.Sums.{total, total-append}
-use Rattle.rules.specs.House.{maxNodes, maxUnits, maxPairs, maxSilences}
+use Rattle.rules.specs.House.{maxNodes, maxUnits, maxPairs, maxEntries, minTold, maxSilences}
 use Rattle.rules.specs.Picture.{isNotOk, isOk, Pair, samePair, holds, Status, WAITING, SETTING, LISTED, SILENT, IGNORED, Row, Picture, withStatus, withRows, withState}
-use Rattle.rules.specs.Picture.{Kept, nothing, kept, keptBy, keptIn, pairsOf, pairsIn, hasAddress, keeps, isOpen, isOpenStatus, isSilent, isSilentStatus, Seat, seatAt, others, put}
+use Rattle.rules.specs.Picture.{Kept, nothing, kept, keptBy, keptIn, pairsOf, pairsIn, hasAddress, keeps, isOpen, isOpenStatus, isSilent, isSilentStatus, newRow, Seat, seatAt, others, put}
+use Rattle.rules.specs.Listing.{entriesOf, entriesFrom, listing, listedPairs}
 use Rattle.rules.specs.Event.{Event, two, four}
 use Rattle.rules.specs.Order.{Order, ASK, SET, OK, NOTOK, NEW, INVALID, WAIT-SHORT, WAIT-LONG, kindOf, bodyOf, encode, encodeAll}
 use Rattle.rules.specs.Renumber.{judge, goods, Renumbering, finished, renumbers}
-use Rattle.rules.specs.Step.{Change, change, respond, asks, scanned, scan, begin, shutDown, changeRows, silenced, asked, delayEnds, ignored, counted, onCounted, setOrder, judgedFor, renumberingFor, listedRow, keepAnswer}
-use Rattle.rules.specs.Ending.{becomesOk, settled, okOrder, missing, packed, tell, lost, gained, tellRows, told, waits, waitOrder, endOrders, ordersOf}
+use Rattle.rules.specs.Step.{Packing, rowsSeparately, acrossRows, Change, change, respond, asks, scanned, scan, begin, rescanned, rescan, shutDown, changeRows, silenced, asked, delayEnds, ignored, counted, onCounted, setOrder, judgedFor, renumberingFor, listedRow, keepAnswer}
+use Rattle.rules.specs.Ending.{becomesOk, settled, okOrder, missing, packed, tell, lost, gained, tellRows, toldBy, told, waits, waitOrder, endOrders, ordersOf}
 use Rattle.rules.proofs.Ways.{Ways, Seated, Keepers, every-taken}
 use Rattle.rules.proofs.Pairs.{same-self, goods-few}
 use Rattle.rules.proofs.Sound.{Apart, RowsApart, RowProper, Proper, SoundRows, Sound, Formed, kept-after, length-counted, split-rows}
@@ -71,28 +72,49 @@ asks-none f k rows h = go k rows (any-none f rows h)
     go k [] h = refl
     go k (r ∷ rows) h = cond-false (ASK k ∷ asks f (suc k) rows) (asks f (suc k) rows) (all-head h) ∙ go (suc k) rows (all-tail h)
 
--- what a list of pairs takes that is told: at most ten bytes a pair
-packed-size : (most cap : ℕ) (ps : List Pair) → total (λ (q : List Pair). 8 + 2 * length q) (packed most cap ps) ≤ 8 * most + 2 * length ps
+-- what a list of pairs takes that is told: eight bytes an order and two a pair
+packed-bytes : (most cap : ℕ) (ps : List Pair)
+    → total (λ (q : List Pair). 8 + 2 * length q) (packed most cap ps) ≤ 8 * length (packed most cap ps) + 2 * length ps
 unfolding packed total
-packed-size zero cap ps = omega arith
-packed-size (suc most) cap [] = omega arith
-packed-size (suc most) cap (a ∷ ps) =
-    let e = packed-size most cap (drop cap (a ∷ ps)) in
+packed-bytes zero cap ps = omega arith
+packed-bytes (suc most) cap [] = omega arith
+packed-bytes (suc most) cap (a ∷ ps) =
+    let e = packed-bytes most cap (drop cap (a ∷ ps)) in
     let f : length (drop cap (a ∷ ps)) ≡ length (a ∷ ps) - cap = length-drop cap (a ∷ ps) in
     let g : length (take cap (a ∷ ps)) ≡ min cap (length (a ∷ ps)) = length-take cap (a ∷ ps) in
+    omega arith
+
+-- no more orders than there may be, and all but the last are full
+packed-few : (most cap : ℕ) (ps : List Pair) → length (packed most cap ps) ≤ most
+unfolding packed
+packed-few zero cap ps = omega arith
+packed-few (suc most) cap [] = omega arith
+packed-few (suc most) cap (a ∷ ps) = let e = packed-few most cap (drop cap (a ∷ ps)) in omega arith
+
+packed-full : (most cap : ℕ) (ps : List Pair) → minTold ≤ cap → minTold * length (packed most cap ps) ≤ length ps + (minTold - 1)
+unfolding packed
+packed-full zero cap ps h = omega arith
+packed-full (suc most) cap [] h = omega arith
+packed-full (suc most) cap (a ∷ ps) h =
+    let e = packed-full most cap (drop cap (a ∷ ps)) h in
+    let f : length (drop cap (a ∷ ps)) ≡ length (a ∷ ps) - cap = length-drop cap (a ∷ ps) in
     omega arith
 
 -- what the size of a telling order is
 abbrev Tells : (List Pair → Order) → Type 0
 Tells order = (q : List Pair) → sizeOf (order q) ≡ 8 + 2 * length q
 
-tell-size : (order : List Pair → Order) → Tells order → (size : ℕ) (ps : List Pair) → total sizeOf (tell order size ps) ≤ 10 * length ps
+tell-bytes : (order : List Pair → Order) → Tells order → (size : ℕ) (ps : List Pair)
+    → total sizeOf (tell order size ps) ≤ 8 * length (packed (length ps) ((size - 1) / 2) ps) + 2 * length ps
 unfolding tell total
-tell-size order h size ps = let e = packed-size (length ps) ((size - 1) / 2) ps in let f = same (packed (length ps) ((size - 1) / 2) ps) in omega arith
+tell-bytes order h size ps = let e = packed-bytes (length ps) ((size - 1) / 2) ps in let f = same (packed (length ps) ((size - 1) / 2) ps) in omega arith
   where
     same : (qs : List (List Pair)) → total sizeOf (map order qs) ≡ total (λ (q : List Pair). 8 + 2 * length q) qs
     same [] = refl
     same (q ∷ qs) = ap₂ _+_ (h q) (same qs)
+
+tell-size : (order : List Pair → Order) → Tells order → (size : ℕ) (ps : List Pair) → total sizeOf (tell order size ps) ≤ 10 * length ps
+tell-size order h size ps = let e = tell-bytes order h size ps in let f = packed-few (length ps) ((size - 1) / 2) ps in omega arith
 
 tells-invalid : Tells INVALID
 unfolding sizeOf
@@ -138,8 +160,8 @@ rows-told order h pairs size (b ∷ bs) (a ∷ rest) =
     let f = tell-size order h size (pairs b a) in
     rw total-append (omega arith)
 
-told-size : (b c : Picture) → total sizeOf (told b c) ≤ 10 * (changes lost (b .rows) (c .rows) + changes gained (b .rows) (c .rows))
-unfolding told total
+told-size : (b c : Picture) → total sizeOf (told rowsSeparately b c) ≤ 10 * (changes lost (b .rows) (c .rows) + changes gained (b .rows) (c .rows))
+unfolding told toldBy total
 told-size b c = go (isOk (b .state) && isOk (c .state))
   where
     go : (t : Bool)
@@ -330,7 +352,7 @@ unfolding endOrders
 ending-size p = let a = ok-size p in let b = wait-size (settled p) in rw total-append (omega arith)
 
 orders-size : (p : Picture) (c : Change) → total sizeOf (ordersOf p c)
-    ≡ total sizeOf (c .first) + total sizeOf (told p (c .picture)) + total sizeOf (c .set) + total sizeOf (endOrders (c .picture))
+    ≡ total sizeOf (c .first) + total sizeOf (told (c .packing) p (c .picture)) + total sizeOf (c .set) + total sizeOf (endOrders (c .picture))
 unfolding ordersOf
 orders-size p c = simp total-append
 
@@ -344,14 +366,14 @@ asks-end f rows q l h = go (decide (any f rows))
     go (inl e) = omega (arith, asks-size f 1 rows, ending-open q (h e))
     go (inr e) = omega (arith, ap (total sizeOf) (asks-none f 1 rows e), ending-size q)
 
--- the largest event has 511 bytes
+-- the bytes of the largest event, an NCE in OK: an ASK for each row, and every pair told in orders of the smallest L
 abbrev pub largest : ℕ
-largest = 511
+largest = 8 * maxUnits + 8 * ((maxEntries + (minTold - 1)) / minTold) + 2 * maxEntries
 
 -- where OK is left nothing is told
-pub told-none : (p c : Picture) → isOk (c .state) ≡ false → told p c ≡ []
+pub told-none : (k : Packing) (p c : Picture) → isOk (c .state) ≡ false → told k p c ≡ []
 unfolding told
-told-none p c h = cond-false _ [] (ap (λ (b : Bool). isOk (p .state) && b) h ∙ and-none (isOk (p .state)))
+told-none k p c h = cond-false _ [] (ap (λ (b : Bool). isOk (p .state) && b) h ∙ and-none (isOk (p .state)))
 
 -- a new pass: NOTOK and an ASK for each row
 scan-size : (p : Picture) (first : List Order) (rows : List Row) → total sizeOf first ≤ 7 → suc (length rows) ≤ maxNodes
@@ -359,18 +381,55 @@ scan-size : (p : Picture) (first : List Order) (rows : List Row) → total sizeO
 unfolding scan scanned isOk total
 scan-size p first rows h l =
     let o = orders-size p (scan first rows p) in
-    let t = ap (total sizeOf) (told-none p (scanned rows p) refl) in
+    let t = ap (total sizeOf) (told-none rowsSeparately p (scanned rows p) refl) in
     let a = total-append sizeOf first (asks isOpen 1 rows) in
     let e = asks-end isOpen rows (scanned rows p) l (λ k. k) in
     omega arith
 
+-- the pairs of the listing
+pub listing-size : (x : ℕ) (rows : List Row) → All RowProper rows → length (entriesFrom x rows) ≤ length rows * maxPairs
+unfolding entriesFrom entriesOf
+listing-size x [] h = omega arith
+listing-size x (r ∷ rows) h = let e = listing-size (suc x) rows (all-tail h) in let f = one (keptIn r) (all-head h) in rw length-append (omega arith)
+  where
+    one : (k : Kept) → Proper k → length (entriesOf x k) ≤ maxPairs
+    one nothing h = omega arith
+    one (kept a ps) h = rw length-map (h .1)
+
+-- every pair listed so far, in orders that are full but for the last
+told-listed : (p q : Picture) → Sound p → p .size ≡ q .size
+    → total sizeOf (told acrossRows p q) ≤ 8 * ((maxEntries + (minTold - 1)) / minTold) + 2 * maxEntries
+unfolding told toldBy listedPairs listing total
+told-listed p q h s = go (isOk (p .state) && isOk (q .state))
+  where
+    go : (t : Bool) → total sizeOf (cond t (tell INVALID (q .size) (listedPairs p)) []) ≤ 8 * ((maxEntries + (minTold - 1)) / minTold) + 2 * maxEntries
+    go true =
+        let f = h .rows .few in
+        let z = h .size in
+        let l = listing-size 1 (p .rows) (h .rows .proper) in
+        let m : length (listedPairs p) ≡ length (listing p) = length-map (listing p) _ in
+        let c : minTold ≤ (q .size - 1) / 2 = omega arith in
+        let b = tell-bytes INVALID tells-invalid (q .size) (listedPairs p) in
+        let n = packed-full (length (listedPairs p)) ((q .size - 1) / 2) (listedPairs p) c in
+        omega arith
+    go false = omega arith
+
+-- a ring change in OK: an ASK for each row, and every pair listed so far
+rescan-size : (p : Picture) → Sound p → (n : ℕ) → 1 ≤ n → n ≤ maxNodes → total sizeOf (ordersOf p (rescan n p)) ≤ largest
+unfolding rescan rescanned total
+rescan-size p h n l m =
+    let o = orders-size p (rescan n p) in
+    let t = told-listed p (rescan n p .picture) h refl in
+    let e = asks-end isOpen (replicate (n - 1) newRow) (rescan n p .picture) (rw length-replicate (omega arith)) (λ k. k) in
+    omega arith
+
 -- rows that change in place: what is told, a SET and the ending
-rows-size : (p : Picture) (c : Change) → c .first ≡ [] → total sizeOf (c .set) ≤ 13
+rows-size : (p : Picture) (c : Change) → c .first ≡ [] → c .packing ≡ rowsSeparately → total sizeOf (c .set) ≤ 13
     → changes lost (p .rows) (c .picture .rows) + changes gained (p .rows) (c .picture .rows) ≤ 2 * maxPairs → total sizeOf (ordersOf p c) ≤ largest
 unfolding total
-rows-size p c f s h =
+rows-size p c f k s h =
     let o = orders-size p c in
-    let t = told-size p (c .picture) in
+    let t : total sizeOf (told (c .packing) p (c .picture)) ≤ _ = rw k (told-size p (c .picture)) in
     let z = ending-size (c .picture) in
     let e : total sizeOf (c .first) ≡ 0 = ap (total sizeOf) f in
     omega arith
@@ -448,14 +507,15 @@ module _ (p : Picture) (h : Sound p) where
   size-ways =
       record {
         starts = λ n l f. scan-size p [] _ (omega arith) (rw length-replicate (omega (arith, f .0, f .1)));
-        rescans = λ n l f. scan-size p (NOTOK ∷ []) _ (omega arith) (rw length-replicate (omega (arith, f .0, f .1)));
-        shuts = λ f. rows-size p _ refl (omega arith) (omega (arith, changes-gone lost (p .rows), changes-gone gained (p .rows)));
-        silences = λ c x s o f. rows-size p _ refl (omega arith) (onto c x s _ (put-changes _ _ (seat-proper c x s) (omega (arith, ap length (silenced-pairs (seatAt (p .rows) x .row))))));
+        rescans = λ n l i f. scan-size p (NOTOK ∷ []) _ (omega arith) (rw length-replicate (omega (arith, f .0, f .1)));
+        rescansInOk = λ n l i f. rescan-size p h n (f .0) (f .1);
+        shuts = λ f. rows-size p _ refl refl (omega arith) (omega (arith, changes-gone lost (p .rows), changes-gone gained (p .rows)));
+        silences = λ c x s o f. rows-size p _ refl refl (omega arith) (onto c x s _ (put-changes _ _ (seat-proper c x s) (omega (arith, ap length (silenced-pairs (seatAt (p .rows) x .row))))));
         delays = λ c d f. delay-size p (h .rows .few);
-        bars = λ c x a ps s o z f. rows-size p _ refl (omega arith) (onto c x s _ (put-changes _ _ (seat-proper c x s) (omega (arith, ap length (ignored-pairs a (seatAt (p .rows) x .row))))));
-        ignores = λ c x a ps s o counts k z f. rows-size p _ refl (omega arith) (onto c x s _ (counted-changes a counts k _ (split-rows p h c x s)));
+        bars = λ c x a ps s o z f. rows-size p _ refl refl (omega arith) (onto c x s _ (put-changes _ _ (seat-proper c x s) (omega (arith, ap length (ignored-pairs a (seatAt (p .rows) x .row))))));
+        ignores = λ c x a ps s o counts k z f. rows-size p _ refl refl (omega arith) (onto c x s _ (counted-changes a counts k _ (split-rows p h c x s)));
         restarts = λ c x a ps s o counts b l f. scan-size p (NOTOK ∷ []) _ (omega arith) (rw length-map (omega (arith, split-rows p h c x s .few, length-counted counts counted (seatAt (p .rows) x))));
-        keeps = λ c x a ps s o k f. rows-size p _ refl (set-size x a _) (onto c x s _ (put-changes _ _ (seat-proper c x s) (omega (arith, f, listed-pairs (seatAt (p .rows) x) a ps))));
+        keeps = λ c x a ps s o k f. rows-size p _ refl refl (set-size x a _) (onto c x s _ (put-changes _ _ (seat-proper c x s) (omega (arith, f, listed-pairs (seatAt (p .rows) x) a ps))));
       }
 
 -- every taken event

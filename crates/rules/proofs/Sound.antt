@@ -16,7 +16,7 @@ use Rattle.rules.specs.Picture.{Pair, WAITING, Row, Picture, withStatus,
 use Rattle.rules.specs.Picture.{Kept, nothing, kept, keptBy, keptIn, pairsOf, pairsIn, hasAddress, keeps, isSilent, isIgnored, newRow, Seat, seatAt, others, put}
 use Rattle.rules.specs.Event.{Event, START, NCE, SHUTDOWN, ANSWER, NONE, DELAY}
 use Rattle.rules.specs.Renumber.{judge, goods, Renumbering, finished, renumbers}
-use Rattle.rules.specs.Step.{Change, scanned, scan, begin, shutDown, changeRows, silenced, asked, delayEnds, ignored, counted, onCounted, emptied, statusAfter, judgedFor, renumberingFor, listedRow, keepAnswer}
+use Rattle.rules.specs.Step.{Change, scanned, scan, begin, rescanned, rescan, shutDown, changeRows, silenced, asked, delayEnds, ignored, counted, onCounted, emptied, statusAfter, judgedFor, renumberingFor, listedRow, keepAnswer}
 use Rattle.rules.proofs.Ways.{Ways, Seated}
 use Rattle.rules.proofs.Pairs.{eqb-turn, Differ, differ-turn, New, goods-new, goods-differ, goods-few}
 
@@ -199,11 +199,12 @@ module _ (p : Picture) (h : Sound p) where
         }
 
   pub sound-ways : Ways p (λ (e : Event) (c : Change). Formed e → Sound (c .picture))
-  unfolding begin scan scanned shutDown changeRows withRows delayEnds keepAnswer
+  unfolding begin scan scanned rescan rescanned shutDown changeRows withRows delayEnds keepAnswer
   sound-ways =
       record {
         starts = λ n l f. record { rows = new-rows n (f .0) (f .1); pass = l; size = h .size };
-        rescans = λ n l f. record { rows = new-rows n (f .0) (f .1); pass = l; size = h .size };
+        rescans = λ n l i f. record { rows = new-rows n (f .0) (f .1); pass = l; size = h .size };
+        rescansInOk = λ n l i f. record { rows = new-rows n (f .0) (f .1); pass = l; size = h .size };
         shuts = λ f. record { rows = no-rows; pass = h .pass; size = h .size };
         silences = λ c x s o f. record { rows = sound-put c x s _ (sheds-silenced _); pass = h .pass; size = h .size };
         delays = λ c d f. record { rows = sound-each _ _ (h .rows) (each-map Sheds asked sheds-asked (p .rows)); pass = h .pass; size = h .size };

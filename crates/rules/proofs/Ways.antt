@@ -14,10 +14,10 @@ use Rattle.laws.specs.Lists.{any}
 use Rattle.laws.specs.Bools.{clash, and-false, or-left, or-right, not-false, on-cond}
 use Rattle.laws.specs.Alls.{All, all-of, all-map, any-none}
 use Rattle.rules.specs.House.{minRoom, maxPass}
-use Rattle.rules.specs.Picture.{NotOk, isNotOk, Pair, Row, Picture, isOpen, isIgnored, keeps, bars, inRange, Seat, seatAt, others, put, noRow}
+use Rattle.rules.specs.Picture.{NotOk, isNotOk, isOk, Pair, Row, Picture, isOpen, isIgnored, keeps, bars, inRange, Seat, seatAt, others, put, noRow}
 use Rattle.rules.specs.Event.{Event, START, NCE, SHUTDOWN, ANSWER, NONE, DELAY, decode}
 use Rattle.rules.specs.Order.{NOTOK}
-use Rattle.rules.specs.Step.{Change, Response, refuse, change, refuseIf, scan, begin, shutDown, changeRows, silenced, delayEnds, Verdict, barred, outside, duplicate, changed, fine}
+use Rattle.rules.specs.Step.{Change, Response, refuse, change, refuseIf, scan, begin, rescan, networkChange, shutDown, changeRows, silenced, delayEnds, Verdict, barred, outside, duplicate, changed, fine}
 use Rattle.rules.specs.Step.{firstThatApplies, verdict, ignored, counted, atLimit, onCounted, emptied, conflict, keepAnswer, nobody, answer, takes, notTaken, noPosition, respond}
 use Rattle.rules.specs.Ending.{pictureOf, ordersOf}
 use Rattle.rules.specs.Run.{Outcome, refused, taken, onEvent, onDecoded, concluded, step, Record, offered}
@@ -65,7 +65,8 @@ pub record Below (counts : Row → Bool) (s : Seat) : Type 0 where
 -- one field for each way in which an event is taken
 pub record Ways (p : Picture) (P : Event → Change → Type 0) : Type 0 where
   pub starts : (n : ℕ) → p .pass < maxPass → P (START n) (begin [] n p)
-  pub rescans : (n : ℕ) → p .pass < maxPass → P (NCE n) (begin (NOTOK ∷ []) n p)
+  pub rescans : (n : ℕ) → p .pass < maxPass → isOk (p .state) ≡ false → P (NCE n) (begin (NOTOK ∷ []) n p)
+  pub rescansInOk : (n : ℕ) → p .pass < maxPass → isOk (p .state) ≡ true → P (NCE n) (rescan n p)
   pub shuts : P SHUTDOWN (shutDown p)
   pub silences : (c x : ℕ) → Seated p c x → isOpen (seatAt (p .rows) x .row) ≡ true
       → P (NONE c x) (changeRows (put (seatAt (p .rows) x) (silenced (seatAt (p .rows) x .row))) p)
@@ -142,9 +143,13 @@ module _ (p : Picture) (P : Event → Change → Type 0) (w : Ways p P) where
         (λ h. w .keeps c x a ps s o h)
 
   in-every-way : (e : Event) → Always (P e) (respond p e)
-  unfolding respond
+  unfolding respond networkChange
   in-every-way (START n) = always-refuseIf (P (START n)) _ _ _ (λ h. w .starts n (room-for-pass (p .pass) h))
-  in-every-way (NCE n) = always-refuseIf (P (NCE n)) _ _ _ (λ h. w .rescans n (room-for-pass (p .pass) h))
+  in-every-way (NCE n) =
+      always-refuseIf (P (NCE n)) _ _ _
+      (λ h. on-cond (P (NCE n)) (isOk (p .state)) (rescan n p) (begin (NOTOK ∷ []) n p)
+      (λ e. w .rescansInOk n (room-for-pass (p .pass) h) e)
+      (λ e. w .rescans n (room-for-pass (p .pass) h) e))
   in-every-way SHUTDOWN = w .shuts
   in-every-way (ANSWER c x a ps) =
       always-refuseIf (P (ANSWER c x a ps)) _ _ _

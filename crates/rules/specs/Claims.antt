@@ -1,13 +1,13 @@
 -- What the rules promise, as types that quote the demands; proofs/ has a proof of each.
-use Prim.Native.Nat.{ℕ, suc, _+_, _-_, _*_, _<_, _≤_}
+use Prim.Native.Nat.{ℕ, suc, _+_, _-_, _*_, _/_, _<_, _≤_}
 use mathlib.Core.Path.{_≡_}
-use mathlib.Core.Bool.{Bool, true, false, cond, not, _||_}
-use mathlib.Core.List.{List, [], _∷_, _++_}
+use mathlib.Core.Bool.{Bool, true, false, cond, not, _&&_, _||_}
+use mathlib.Core.List.{List, [], _∷_, _++_, map}
 use mathlib.Core.Logic.{_≢_}
 use mathlib.Core.Option.{Option, none, some}
 use lib.Dec.{eqb}
 use lib.ListN.{length, getD, take, drop, replicate}
-use Rattle.rules.specs.Picture.{Off, NotOk, Ok, nodesIn, Status, SILENT, isSilentStatus, Row, Pair, Picture, holds, pairsIn, keeps, bars, rowAt, openAt, fresh, freshNumber, seatAt, others}
+use Rattle.rules.specs.Picture.{State, Off, NotOk, Ok, isOk, nodesIn, Status, WAITING, SILENT, isSilentStatus, Row, Pair, Picture, holds, pairsIn, keeps, bars, rowAt, openAt, fresh, freshNumber, seatAt, others}
 use Rattle.rules.specs.Event.{Event, START, NCE, SHUTDOWN, ANSWER, NONE, DELAY, decode, encodeEvent}
 use Rattle.rules.specs.House.{minNumber, maxNumber}
 use Rattle.rules.specs.Renumber.{isIn, freeNumber}
@@ -16,9 +16,9 @@ use Rattle.rules.specs.Order.{encodeAll, Order, ASK, SET, OK, NOTOK, NEW
 use Rattle.rules.specs.Run.{Outcome, refused, taken, Record, offered, next, after, history, Sent, sentBy, written, lent, resultOf}
 use Rattle.rules.specs.Telegram.{uncounted, countNumber, countValue, uncut, cutNumber, cutBytes, cutLength, unjoined, joinNumber, joinMsgId, joinLength}
 use Rattle.rules.specs.Telegram.{telegramOf, telegrams, countOf, count, countIs, cut, cutTo, Joining, idle, stillOpen, complete, join, joinAll}
-use Rattle.laws.specs.Lists.{collect}
+use Rattle.laws.specs.Lists.{collect, upFrom}
 use Rattle.laws.specs.Alls.{All}
-use Rattle.rules.specs.Listing.{listing, listedPositions, lookUp, found, notFound, lookupNumber, lookupPosition, lookupAddress}
+use Rattle.rules.specs.Listing.{Entry, listing, listedPositions, lookUp, found, notFound, lookupNumber, lookupPosition, lookupAddress}
 
 -- the event that a record is taken as; none where it is refused
 unfoldable pub ifTaken : Outcome → Option Event → Option Event
@@ -96,13 +96,18 @@ pub record Exists8 (e : Event) : Type 0 where
   pub eight : length (encodeEvent e) ≡ 8
   pub bytes : All (λ (b : ℕ). b < 256) (encodeEvent e)
 
--- "some question of the current pass is open, and a well-formed silence for any open one, with 512 bytes of order room, is taken":
--- every open question is of the current pass, and such a silence exists as 8 bytes
-pub record Awaits (p : Picture) (sent : List Sent) : Type 0 where
-  pub notOk : p .state ≡ NotOk
+-- the state on the way to OK with no question open: NOTOK; but after an NCE in OK it is OK until a restart opens another pass
+unfoldable pub wayState : (fromOk samePass : Bool) → State
+wayState fromOk samePass = cond (fromOk && samePass) Ok NotOk
+
+-- "some question of the current pass is open, and a well-formed silence for any open one, with 8,192 bytes of order room, is taken":
+-- every open question is of the current pass, and such a silence exists as 8 bytes. The START or NCE came in OK or not, and opened
+-- pass n.
+pub record Awaits (fromOk : Bool) (n : ℕ) (p : Picture) (sent : List Sent) : Type 0 where
+  pub state : p .state ≡ wayState fromOk (eqb (p .pass) n)
   pub someOpen : (x : ℕ) × (openAt p x ≡ true)
   pub current : (x : ℕ) → openAt p x ≡ true → questionPass sent x ≡ some (p .pass)
-  pub silence : (x : ℕ) → openAt p x ≡ true → (r : Record) → decode (r .bytes) ≡ some (NONE (p .pass) x) → 512 ≤ r .room
+  pub silence : (x : ℕ) → openAt p x ≡ true → (r : Record) → decode (r .bytes) ≡ some (NONE (p .pass) x) → 8_192 ≤ r .room
       → accepted p r ≡ some (NONE (p .pass) x)
   pub writable : (x : ℕ) → openAt p x ≡ true → Exists8 (NONE (p .pass) x)
 
@@ -130,22 +135,27 @@ Allowed p (some (DELAY c)) = ⊥
 unfoldable pub bound : ℕ → ℕ
 bound n = 49 * (n - 1) * (2 * n - 1)
 
--- "OK comes after at most 49 × (N−1) × (2N−1) of them, unless the list holds fewer. From it until then, after each record", the ring
--- awaits an answer or a silence. The START or NCE is the record in front of place i; the list is looked at up to place e, its end or
--- an earlier one.
-pub data Reaches (l : ℕ) (rs : List Record) (i e n : ℕ) : Type 0 where
-  arrives : (m : ℕ) → i ≤ m → m ≤ e → pictureAt l rs m .state ≡ Ok → repliesBetween l rs i m ≤ bound n
-      → ((j : ℕ) → i ≤ j → j < m → Awaits (pictureAt l rs j) (sentAt l rs j)) → Reaches l rs i e n
-  holdsFewer : repliesBetween l rs i e < bound n → ((j : ℕ) → i ≤ j → j ≤ e → Awaits (pictureAt l rs j) (sentAt l rs j))
-      → Reaches l rs i e n
+-- "the state is OK with no question open". Where it was NOTOK before, this is when OK comes.
+pub record Arrived (p : Picture) : Type 0 where
+  pub ok : p .state ≡ Ok
+  pub closed : (x : ℕ) → openAt p x ≡ false
 
--- Demand 3, of a whole list of records and any L. "After it let only answers and silences be taken" is asked of the records up to
+-- "OK comes after at most 49 × (N−1) × (2N−1) of them, unless the list holds fewer. From it until then, after each record", the ring
+-- awaits an answer or a silence; "for an NCE in OK: after at most the same number of replies to open questions the state is OK with no
+-- question open." The START or NCE is the record in front of place i; the list is looked at up to place e, its end or an earlier one.
+pub data Reaches (l : ℕ) (rs : List Record) (fromOk : Bool) (i e n : ℕ) : Type 0 where
+  arrives : (m : ℕ) → i ≤ m → m ≤ e → Arrived (pictureAt l rs m) → repliesBetween l rs i m ≤ bound n
+      → ((j : ℕ) → i ≤ j → j < m → Awaits fromOk (pictureAt l rs i .pass) (pictureAt l rs j) (sentAt l rs j)) → Reaches l rs fromOk i e n
+  holdsFewer : repliesBetween l rs i e < bound n
+      → ((j : ℕ) → i ≤ j → j ≤ e → Awaits fromOk (pictureAt l rs i .pass) (pictureAt l rs j) (sentAt l rs j)) → Reaches l rs fromOk i e n
+
+-- Demand 3, of a whole list of records and any L, for START, NCE in NOTOK and NCE in OK. "After it let only answers and silences be taken" is asked of the records up to
 -- place e, so that whatever comes later takes nothing from any START or NCE of the list; e may be the list's end.
 pub record Demand3 (l : ℕ) (rs : List Record) : Type 0 where
   pub distinct : (k : ℕ) → k ≤ length rs → Distinct (pictureAt l rs k)
   pub reaches : (i e n : ℕ) → i < e → e ≤ length rs → Names (accepted (pictureAt l rs i) (recordAt rs i)) n
       → ((j : ℕ) → i < j → j < e → Allowed (pictureAt l rs j) (accepted (pictureAt l rs j) (recordAt rs j)))
-      → (1 ≤ n) × (n ≤ 64) × Reaches l rs (suc i) e n
+      → (1 ≤ n) × (n ≤ 64) × Reaches l rs (isOk (pictureAt l rs i .state)) (suc i) e n
 
 -- "It can be had in every state and is empty in OFF."
 pub record EmptyInOff (l : ℕ) (rs : List Record) : Type 0 where
@@ -176,11 +186,11 @@ pub record Bounds (l : ℕ) (rs : List Record) : Type 0 where
   pub pairs : (k x : ℕ) → k ≤ length rs → length (pairsIn (rowAt (pictureAt l rs k .rows) x)) ≤ 16
   pub entries : (k : ℕ) → k ≤ length rs → length (listing (pictureAt l rs k)) ≤ 1_008
 
--- No record of any list writes more than 511 bytes of orders, so that 512 bytes of order room do: they stand at the start of the lent
--- buffer. "Lent bytes beyond what was written never change."
+-- No record of any list writes more than 4,136 bytes of orders, so that 8,192 bytes of order room do: they stand at the start of the
+-- lent buffer. "Lent bytes beyond what was written never change."
 pub record Fits (l : ℕ) (rs : List Record) : Type 0 where
-  pub fits : (k : ℕ) → k < length rs → length (written (offered (pictureAt l rs k) (recordAt rs k))) ≤ 511
-  pub beyond : (k : ℕ) → k < length rs → (buffer : List ℕ) → 512 ≤ length buffer
+  pub fits : (k : ℕ) → k < length rs → length (written (offered (pictureAt l rs k) (recordAt rs k))) ≤ 4_136
+  pub beyond : (k : ℕ) → k < length rs → (buffer : List ℕ) → 8_192 ≤ length buffer
       → lent buffer (offered (pictureAt l rs k) (recordAt rs k))
       ≡ written (offered (pictureAt l rs k) (recordAt rs k)) ++ drop (length (written (offered (pictureAt l rs k) (recordAt rs k)))) buffer
 
@@ -193,6 +203,27 @@ pub record Refusal (p : Picture) (r : Record) : Type 0 where
 pub record Carried (p : Picture) (r : Record) : Type 0 where
   pub pass : All (λ (s : Sent). s .pass ≡ next p r .pass) (sentBy (offered p r))
   pub bytes : written (offered p r) ≡ collect (λ (s : Sent). encode (s .pass) (s .order)) (sentBy (offered p r))
+
+-- Pairs told in orders of at most `most`: no order is empty, and all but the last are full.
+pub data Full (most : ℕ) : List (List Pair) → Type 0 where
+  no-order : Full most []
+  last-order : {ps : List Pair} → 1 ≤ length ps → length ps ≤ most → Full most (ps ∷ [])
+  full-order : {ps : List Pair} {rest : List (List Pair)} → 1 ≤ length ps → length ps ≡ most → Full most rest → Full most (ps ∷ rest)
+
+-- Ticket 1: "an NCE in OK keeps OK and sends no NOTOK: every pair listed so far is told INVALID, packed across rows in listing order,
+-- rows are emptied and asked .. Pass and counters move as before, and a running delay ends." It is taken, with an ASK for each of the
+-- positions 1 to N−1 and then INVALIDs alone. These hold the pairs of the listing, one behind the other, (L−1)/2 in an order.
+pub record KeepsOk (n : ℕ) (p : Picture) (o : Outcome) : Type 0 where
+  pub told : List (List Pair)
+  pub outcome : o ≡ taken
+      (record { state = Ok; pass = suc (p .pass); size = p .size; delay = false; rows = replicate (n - 1) (record { status = WAITING; bad = 0; silences = 0 }) })
+      (map ASK (upFrom 1 (n - 1)) ++ map INVALID told)
+  pub inListingOrder : collect (λ (ps : List Pair). ps) told ≡ map (λ (e : Entry). e .pair) (listing p)
+  pub packed : Full ((p .size - 1) / 2) told
+
+pub record RingChange (l : ℕ) (rs : List Record) : Type 0 where
+  pub keepsOk : (k n : ℕ) → k < length rs → pictureAt l rs k .state ≡ Ok → accepted (pictureAt l rs k) (recordAt rs k) ≡ some (NCE n)
+      → KeepsOk n (pictureAt l rs k) (offered (pictureAt l rs k) (recordAt rs k))
 
 -- a number that is used with a block: a pair of the other rows has it, or one of this answer
 abbrev pub isUsed : (elsewhere announced : List Pair) → (block number : ℕ) → Bool

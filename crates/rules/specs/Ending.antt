@@ -8,7 +8,8 @@ use Rattle.laws.specs.Lists.{any, select}
 use Rattle.rules.specs.House.{maxSilences}
 use Rattle.rules.specs.Picture.{Ok, isNotOk, isOk, Pair, holds, Row, Picture, withState, withDelay, pairsIn, isOpen, isSilent}
 use Rattle.rules.specs.Order.{Order, OK, NEW, INVALID, WAIT-SHORT, WAIT-LONG}
-use Rattle.rules.specs.Step.{Change}
+use Rattle.rules.specs.Listing.{listedPairs}
+use Rattle.rules.specs.Step.{Packing, rowsSeparately, acrossRows, Change}
 
 -- "After every event in NOTOK: if no question is open, state OK and order OK."
 unfoldable pub becomesOk : Picture → Bool
@@ -46,12 +47,14 @@ tellRows order pairs size [] after = []
 tellRows order pairs size (b ∷ bs) [] = []
 tellRows order pairs size (b ∷ bs) (a ∷ rest) = tell order size (pairs b a) ++ tellRows order pairs size bs rest
 
+-- "every pair listed so far is told INVALID, packed across rows in listing order": all rows are emptied, and nothing is newly kept
+unfoldable pub toldBy : Packing → (before changed : Picture) → List Order
+toldBy rowsSeparately b c = tellRows INVALID lost (c .size) (b .rows) (c .rows) ++ tellRows NEW gained (c .size) (b .rows) (c .rows)
+toldBy acrossRows b c = tell INVALID (c .size) (listedPairs b)
+
 -- "If the event began in OK and never left it"
-unfoldable pub told : (before changed : Picture) → List Order
-told b c =
-    cond (isOk (b .state) && isOk (c .state))
-    (tellRows INVALID lost (c .size) (b .rows) (c .rows) ++ tellRows NEW gained (c .size) (b .rows) (c .rows))
-    []
+unfoldable pub told : Packing → (before changed : Picture) → List Order
+told k b c = cond (isOk (b .state) && isOk (c .state)) (toldBy k b c) []
 
 -- "After an event that ends in OK with no open question, a SILENT row and no delay running"
 unfoldable pub waits : Picture → Bool
@@ -71,7 +74,7 @@ endOrders q = okOrder q ++ waitOrder (settled q)
 
 -- "Within one event: NOTOK, ASKs ascending, INVALID, NEW, SET, OK, WAIT."
 unfoldable pub ordersOf : Picture → Change → List Order
-ordersOf b c = (c .first ++ told b (c .picture) ++ c .set) ++ endOrders (c .picture)
+ordersOf b c = (c .first ++ told (c .packing) b (c .picture) ++ c .set) ++ endOrders (c .picture)
 
 -- the picture that the event leaves
 unfoldable pub pictureOf : Change → Picture

@@ -22,11 +22,11 @@ unfolding Event.be2 Event.be4 Event.two Event.four Event.readPairs Event.pairByt
 openRecords = tt
 
 unfoldable pub openSteps : Unit {0}
-unfolding Renumber.isGood Renumber.judge Renumber.goods Renumber.numbersOf Renumber.isIn Renumber.leastFrom Renumber.leastFree Renumber.freeNumber Renumber.offer Renumber.renumberFrom Renumber.renumber Renumber.placeOf Renumber.triesOf Step.refuseIf Step.asks Step.scanned Step.scan Step.begin Step.shutDown Step.changeRows Step.silenced Step.asked Step.delayEnds Step.firstThatApplies Step.verdict Step.ignored Step.counted Step.atLimit Step.onCounted Step.emptied Step.conflict Step.statusAfter Step.setOrder Step.judgedFor Step.renumberingFor Step.listedRow Step.keepAnswer Step.nobody Step.answer Step.takes Step.notTaken Step.noPosition Step.respond Ending.becomesOk Ending.settled Ending.okOrder Ending.missing Ending.packed Ending.tell Ending.lost Ending.gained Ending.tellRows Ending.told Ending.waits Ending.waitOrder Ending.ended Ending.endOrders Ending.ordersOf Ending.pictureOf Run.onEvent Run.onDecoded Run.concluded Run.step Run.left Run.sentWith Run.sentBy Run.written Run.numberOf Run.after Run.history Run.resultOf Run.results
+unfolding Renumber.isGood Renumber.judge Renumber.goods Renumber.numbersOf Renumber.isIn Renumber.leastFrom Renumber.leastFree Renumber.freeNumber Renumber.offer Renumber.renumberFrom Renumber.renumber Renumber.placeOf Renumber.triesOf Step.refuseIf Step.asks Step.scanned Step.scan Step.begin Step.rescanned Step.rescan Step.networkChange Step.shutDown Step.changeRows Step.silenced Step.asked Step.delayEnds Step.firstThatApplies Step.verdict Step.ignored Step.counted Step.atLimit Step.onCounted Step.emptied Step.conflict Step.statusAfter Step.setOrder Step.judgedFor Step.renumberingFor Step.listedRow Step.keepAnswer Step.nobody Step.answer Step.takes Step.notTaken Step.noPosition Step.respond Ending.becomesOk Ending.settled Ending.okOrder Ending.missing Ending.packed Ending.tell Ending.lost Ending.gained Listing.entry Listing.entriesOf Listing.entriesFrom Listing.listing Listing.listedPairs Ending.tellRows Ending.toldBy Ending.told Ending.waits Ending.waitOrder Ending.ended Ending.endOrders Ending.ordersOf Ending.pictureOf Run.onEvent Run.onDecoded Run.concluded Run.step Run.left Run.sentWith Run.sentBy Run.written Run.numberOf Run.after Run.history Run.resultOf Run.results
 openSteps = tt
 
 unfoldable pub openListing : Unit {0}
-unfolding Listing.entry Listing.entriesOf Listing.listedOf Listing.entriesFrom Listing.listedFrom Listing.listing Listing.listedPositions Listing.firstOf Listing.lookUp Listing.lookupNumber Listing.lookupPosition Listing.lookupAddress
+unfolding Listing.entry Listing.entriesOf Listing.listedOf Listing.entriesFrom Listing.listedFrom Listing.listing Listing.listedPairs Listing.listedPositions Listing.firstOf Listing.lookUp Listing.lookupNumber Listing.lookupPosition Listing.lookupAddress
 openListing = tt
 
 unfoldable pub openTelegrams : Unit {0}

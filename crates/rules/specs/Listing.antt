@@ -38,6 +38,10 @@ listedFrom x (r ∷ rs) = listedOf x (keptIn r) ++ listedFrom (suc x) rs
 unfoldable pub listing : Picture → List Entry
 listing p = entriesFrom 1 (p .rows)
 
+-- the listed pairs, "in listing order"
+unfoldable pub listedPairs : Picture → List Pair
+listedPairs p = map (λ (e : Entry). e .pair) (listing p)
+
 unfoldable pub listedPositions : Picture → List Listed
 listedPositions p = listedFrom 1 (p .rows)
 

@@ -30,7 +30,7 @@ unfoldable pub concluded : Picture → Response → Outcome
 concluded p (refuse n) = refused n
 concluded p (change c) = taken (pictureOf c) (ordersOf p c)
 
--- the step of one record: 1: "order room below 512 bytes"; 2: "record malformed"
+-- the step of one record: 1: "room below 8,192 bytes"; 2: "record malformed"
 unfoldable pub step : Picture → List ℕ → (room : ℕ) → Outcome
 step p bytes room = concluded p (refuseIf (ltb room minRoom) 1 (onDecoded p (decode bytes)))
 

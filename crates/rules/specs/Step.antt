@@ -6,16 +6,22 @@ use lib.Dec.{eqb, leb, ltb}
 use lib.ListN.{length, replicate}
 use Rattle.laws.specs.Lists.{any, collect}
 use Rattle.rules.specs.House.{maxBad, maxSilences, maxPass}
-use Rattle.rules.specs.Picture.{State, Off, NotOk, Ok, isNotOk, Pair, Status, WAITING, SETTING, LISTED, SILENT, IGNORED, Row, Picture, withStatus, withRows}
+use Rattle.rules.specs.Picture.{State, Off, NotOk, Ok, isNotOk, isOk, Pair, Status, WAITING, SETTING, LISTED, SILENT, IGNORED, Row, Picture, withStatus, withRows}
 use Rattle.rules.specs.Picture.{pairsIn, keeps, keepsOther, isOpen, isSilent, isIgnored, inRange, bars, newRow, Seat, seatAt, others, put}
 use Rattle.rules.specs.Event.{Event, START, NCE, SHUTDOWN, ANSWER, NONE, DELAY}
 use Rattle.rules.specs.Order.{Order, ASK, SET, NOTOK}
 use Rattle.rules.specs.Renumber.{Judged, judge, goods, freeNumber, Renumbering, finished, renumbers, renumber, placeOf, triesOf}
 
--- What a taken event changes before its ending: the picture, the orders that stand first (NOTOK, ASKs) and the SET.
+-- How pairs are told: "rows separately", or at an NCE in OK "packed across rows in listing order".
+pub data Packing : Type 0 where
+  rowsSeparately acrossRows : Packing
+
+-- What a taken event changes before its ending: the picture, the orders that stand first (NOTOK, ASKs), how pairs are told, and the
+-- SET.
 pub record Change : Type 0 where
   pub picture : Picture
   pub first : List Order
+  pub packing : Packing
   pub set : List Order
 
 pub data Response : Type 0 where
@@ -32,24 +38,38 @@ unfoldable pub asks : (Row → Bool) → ℕ → List Row → List Order
 asks f x [] = []
 asks f x (r ∷ rs) = cond (f r) (ASK x ∷ asks f (suc x) rs) (asks f (suc x) rs)
 
--- START: "N set, counters zero, all rows WAITING, ASK each, state NOTOK, pass +1." NCE: "the same, with the order NOTOK first (in
--- either state); counters and barred addresses are forgotten (REQ 8.61), a running delay ends."
+-- START: "N set, counters zero, all rows WAITING, ASK each, state NOTOK, pass +1." NCE in NOTOK: "the same, with the order NOTOK first
+-- ..; counters and barred addresses are forgotten (REQ 8.61), a running delay ends."
 unfoldable pub scanned : List Row → Picture → Picture
 scanned rs p = record { state = NotOk; pass = suc (p .pass); size = p .size; delay = false; rows = rs }
 
 unfoldable pub scan : List Order → List Row → Picture → Change
-scan first rs p = record { picture = scanned rs p; first = first ++ asks isOpen 1 rs; set = [] }
+scan first rs p = record { picture = scanned rs p; first = first ++ asks isOpen 1 rs; packing = rowsSeparately; set = [] }
 
 unfoldable pub begin : List Order → ℕ → Picture → Change
 begin first n p = scan first (replicate (n - 1) newRow) p
 
+-- NCE in OK (ticket 1): "keeps OK and sends no NOTOK: every pair listed so far is told INVALID, packed across rows in listing order,
+-- rows are emptied and asked .. Pass and counters move as before, and a running delay ends."
+unfoldable pub rescanned : List Row → Picture → Picture
+rescanned rs p = record { state = Ok; pass = suc (p .pass); size = p .size; delay = false; rows = rs }
+
+unfoldable pub rescan : ℕ → Picture → Change
+rescan n p =
+    let rs = replicate (n - 1) newRow in
+    record { picture = rescanned rs p; first = asks isOpen 1 rs; packing = acrossRows; set = [] }
+
+-- "In NOTOK nothing changes."
+unfoldable pub networkChange : ℕ → Picture → Change
+networkChange n p = cond (isOk (p .state)) (rescan n p) (begin (NOTOK ∷ []) n p)
+
 -- SHUTDOWN: "OFF, everything emptied except pass and L. No orders."
 unfoldable pub shutDown : Picture → Change
-shutDown p = record { picture = record { state = Off; pass = p .pass; size = p .size; delay = false; rows = [] }; first = []; set = [] }
+shutDown p = record { picture = record { state = Off; pass = p .pass; size = p .size; delay = false; rows = [] }; first = []; packing = rowsSeparately; set = [] }
 
 -- a change of rows that asks nothing
 unfoldable pub changeRows : List Row → Picture → Change
-changeRows rs p = record { picture = withRows rs p; first = []; set = [] }
+changeRows rs p = record { picture = withRows rs p; first = []; packing = rowsSeparately; set = [] }
 
 -- NONE: "the row loses address and pairs, becomes SILENT, silence count +1, stopping at 20."
 unfoldable pub silenced : Row → Row
@@ -64,6 +84,7 @@ delayEnds p =
     record {
       picture = record { state = p .state; pass = p .pass; size = p .size; delay = false; rows = map asked (p .rows) };
       first = asks isSilent 1 (p .rows);
+      packing = rowsSeparately;
       set = [];
     }
 
@@ -132,7 +153,8 @@ unfoldable pub listedRow : Seat → (address : ℕ) → List Pair → Row
 listedRow s a ps = record { status = statusAfter a (goods (judgedFor s ps)) (renumberingFor s ps); bad = s .row .bad; silences = 0 }
 
 unfoldable pub keepAnswer : (position address : ℕ) → List Pair → Seat → Picture → Change
-keepAnswer x a ps s p = record { picture = withRows (put s (listedRow s a ps)) p; first = []; set = setOrder x a (renumberingFor s ps) }
+keepAnswer x a ps s p =
+    record { picture = withRows (put s (listedRow s a ps)) p; first = []; packing = rowsSeparately; set = setOrder x a (renumberingFor s ps) }
 
 -- c counts "for p and q"; b and d for p alone
 unfoldable pub nobody : Row → Bool
@@ -183,7 +205,7 @@ noPosition p x = eqb x 0 || ltb (length (p .rows)) x
 -- ANSWER in NOTOK without one; DELAY with none running"; 9: "pass would exceed 4,294,967,295"
 unfoldable pub respond : Picture → Event → Response
 respond p (START n) = refuseIf (leb maxPass (p .pass)) 9 (change (begin [] n p))
-respond p (NCE n) = refuseIf (leb maxPass (p .pass)) 9 (change (begin (NOTOK ∷ []) n p))
+respond p (NCE n) = refuseIf (leb maxPass (p .pass)) 9 (change (networkChange n p))
 respond p SHUTDOWN = change (shutDown p)
 respond p (ANSWER c x a ps) =
     let s = seatAt (p .rows) x in

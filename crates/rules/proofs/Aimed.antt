@@ -17,8 +17,9 @@ use Rattle.rules.specs.Picture.{Pair, samePair, holds, Row, Picture, wit
 use Rattle.rules.specs.Event.{Event, START, NCE, SHUTDOWN, ANSWER, NONE, DELAY, decode}
 use Rattle.rules.specs.Order.{Order, ASK, OK, NOTOK, NEW, INVALID, WAIT-SHORT, WAIT-LONG}
 use Rattle.rules.specs.Renumber.{Judged, isGood, judge, goods, freeNumber, Renumbering, finished, renumbers, offer, renumberFrom, renumber, placeOf, triesOf}
-use Rattle.rules.specs.Step.{Change, asks, scan, begin, rescan, shutDown, changeRows, delayEnds, setOrder, judgedFor, renumberingFor, listedRow, keepAnswer}
-use Rattle.rules.specs.Ending.{becomesOk, waits, okOrder, tell, packed, lost, gained, tellRows, told, waitOrder, settled, ended, endOrders, ordersOf, pictureOf}
+use Rattle.rules.specs.Listing.{listedPairs}
+use Rattle.rules.specs.Step.{Packing, rowsSeparately, acrossRows, Change, asks, scan, begin, rescan, shutDown, changeRows, delayEnds, setOrder, judgedFor, renumberingFor, listedRow, keepAnswer}
+use Rattle.rules.specs.Ending.{becomesOk, waits, okOrder, tell, packed, lost, gained, tellRows, toldBy, told, waitOrder, settled, ended, endOrders, ordersOf, pictureOf}
 use Rattle.rules.specs.Run.{Outcome, Record, left, Sent, sentWith, sentBy}
 use Rattle.rules.specs.Claims.{ifTaken, accepted, SetAimed, Aimed, SetsAimed}
 use Rattle.rules.proofs.Ways.{Ways, Seated, every-taken, Offered, was-refused, was-taken, offered-cases}
@@ -102,11 +103,15 @@ module _ (P : Order → Type 0) (h : Plain P) where
   all-rows order k pairs size (b ∷ bs) [] = all-nil
   all-rows order k pairs size (b ∷ bs) (a ∷ rest) = all-append (all-tell order k size (pairs b a)) (all-rows order k pairs size bs rest)
 
-  all-told : (p c : Picture) → All P (told p c)
+  all-packed : (k : Packing) (p c : Picture) → All P (toldBy k p c)
+  unfolding toldBy
+  all-packed rowsSeparately p c =
+      all-append (all-rows INVALID (h .invalid) lost (c .size) (p .rows) (c .rows)) (all-rows NEW (h .new) gained (c .size) (p .rows) (c .rows))
+  all-packed acrossRows p c = all-tell INVALID (h .invalid) (c .size) (listedPairs p)
+
+  all-told : (k : Packing) (p c : Picture) → All P (told k p c)
   unfolding told
-  all-told p c =
-      on-cond (All P) (isOk (p .state) && isOk (c .state)) (tellRows INVALID lost (c .size) (p .rows) (c .rows) ++ tellRows NEW gained (c .size) (p .rows) (c .rows)) []
-      (λ e. all-append (all-rows INVALID (h .invalid) lost (c .size) (p .rows) (c .rows)) (all-rows NEW (h .new) gained (c .size) (p .rows) (c .rows))) (λ e. all-nil)
+  all-told k p c = on-cond (All P) (isOk (p .state) && isOk (c .state)) (toldBy k p c) [] (λ e. all-packed k p c) (λ e. all-nil)
 
   all-ok : (p : Picture) → All P (okOrder p)
   unfolding okOrder
@@ -127,7 +132,7 @@ module _ (P : Order → Type 0) (h : Plain P) where
 
   all-orders : (p : Picture) (c : Change) → All P (c .first) → All P (c .set) → All P (ordersOf p c)
   unfolding ordersOf
-  all-orders p c f s = all-append (all-append (all-append f (all-told p (c .picture))) s) (all-ending (c .picture))
+  all-orders p c f s = all-append (all-append (all-append f (all-told (c .packing) p (c .picture))) s) (all-ending (c .picture))
 
 plain-aimed : (e : Option Event) (q : Picture) → Plain (Aimed e q)
 plain-aimed e q = record { ask = λ x. tt; ok = tt; notok = tt; new = λ ps. tt; invalid = λ ps. tt; short = tt; long = tt }

@@ -1,27 +1,27 @@
 -- Demand 3, of every list of records from a fresh picture.
 use Prim.Native.Nat.{ℕ, zero, suc, _+_, _-_, _*_, _<_, _≤_, _/_, _%_}
 use mathlib.Core.Path.{_≡_, refl, sym, _∙_, ap, subst}
-use mathlib.Core.Bool.{Bool, true, false, cond, not}
+use mathlib.Core.Bool.{Bool, true, false, cond, not, _&&_}
 use mathlib.Core.List.{List, [], _∷_, _++_, append-assoc, append-nil}
 use mathlib.Core.Option.{Option, some}
 use mathlib.Core.Logic.{_⊎_, inl, inr}
 use native.Mathlib.Omega.{arith}
 use native.Mathlib.Nat.{not-suc-le-zero, le-of-suc-le-suc}
-use borrow.Author.Tests.{ltb-true, ltb-false, le-ltb, eq-eqb}
+use borrow.Author.Tests.{ltb-true, ltb-false, le-ltb, eq-eqb, ne-eqb}
 use lib.Dec.{eqb, ltb, eqb·suc-zero}
 use lib.ListN.{length, getD, take, drop, replicate, length-take, length-drop, List·getD-eq-default}
 use lib.Seq.{take-add, take-suc, take-take, getD-take, getD-drop}
 use Rattle.laws.specs.Lists.{any}
-use Rattle.laws.specs.Bools.{clash, or-false, or-right, refute}
-use Rattle.laws.specs.Alls.{All, all-nil, all-cons, any-found}
+use Rattle.laws.specs.Bools.{clash, and-none, or-false, or-right, refute}
+use Rattle.laws.specs.Alls.{All, all-nil, all-cons, all-everywhere, any-found, any-none}
 use Rattle.laws.specs.Sums.{total-at}
 use Rattle.rules.specs.House.{minRoom, maxNodes, maxPairs, maxTries}
-use Rattle.rules.specs.Picture.{State, NotOk, Ok, Status, WAITING, SETTING, LISTED, SILENT, IGNORED, Row, Picture, withState, withDelay, withRows, isOpen, isOpenStatus, isIgnored, isIgnoredStatus, newRow, noRow, rowAt, openAt, fresh, seatAt, put}
+use Rattle.rules.specs.Picture.{State, Off, NotOk, Ok, isNotOk, isOk, Status, WAITING, SETTING, LISTED, SILENT, IGNORED, Row, Picture, withState, withDelay, withRows, isOpen, isOpenStatus, isIgnored, isIgnoredStatus, newRow, noRow, rowAt, openAt, fresh, seatAt, put}
 use Rattle.rules.specs.Event.{Event, START, NCE, SHUTDOWN, ANSWER, NONE, DELAY, decode, encodeEvent, header, four, two}
-use Rattle.rules.specs.Step.{Change, Response, change, refuseIf, scanned, scan, begin, shutDown, changeRows, silenced, delayEnds, keepAnswer, takes, noPosition, respond}
+use Rattle.rules.specs.Step.{Change, Response, change, refuseIf, scanned, scan, begin, rescanned, rescan, changeRows, silenced, keepAnswer, takes, noPosition, respond}
 use Rattle.rules.specs.Ending.{becomesOk, settled, ended, pictureOf}
 use Rattle.rules.specs.Run.{Outcome, onEvent, onDecoded, concluded, step, Record, offered, left, sentBy, Sent, next, after, history}
-use Rattle.rules.specs.Claims.{Exists8, ifTaken, accepted, isReply, countReply, repliesIn, pictureAt, sentAt, recordAt, repliesBetween, Awaits, Names, Allowed, bound, Reaches, arrives, holdsFewer, Demand3}
+use Rattle.rules.specs.Claims.{Exists8, ifTaken, accepted, isReply, countReply, repliesIn, pictureAt, sentAt, recordAt, repliesBetween, wayState, Awaits, Arrived, Names, Allowed, bound, Reaches, arrives, holdsFewer, Demand3}
 use Rattle.rules.proofs.Ways.{Ways, every-taken, Offered, was-refused, was-taken, offered-cases}
 use Rattle.rules.proofs.Sound.{Sound, Formed}
 use Rattle.rules.proofs.Decode.{formed}
@@ -67,15 +67,15 @@ silence-responds p x o =
     ∙ refuseIf-false _ _ _ (open-heard _ (s .1))
     ∙ refuseIf-false _ _ _ (ap not (s .1))
 
-silence-taken : (p : Picture) (x : ℕ) → p .state ≡ NotOk → openAt p x ≡ true → (r : Record) → decode (r .bytes) ≡ some (NONE (p .pass) x)
+silence-taken : (p : Picture) (x : ℕ) → takes (p .state) (NONE (p .pass) x) ≡ true → openAt p x ≡ true → (r : Record) → decode (r .bytes) ≡ some (NONE (p .pass) x)
     → minRoom ≤ r .room
     → accepted p r ≡ some (NONE (p .pass) x)
-unfolding accepted step ifTaken concluded onDecoded onEvent takes
+unfolding accepted step ifTaken concluded onDecoded onEvent
 silence-taken p x s o r d m =
     ap (λ (z : Response). ifTaken (concluded p z) (decode (r .bytes)))
     (refuseIf-false _ _ _ (le-ltb (r .room) minRoom m)
     ∙ ap (onDecoded p) d
-    ∙ refuseIf-false _ _ _ (ap (λ (z : State). not (takes z (NONE (p .pass) x))) s)
+    ∙ refuseIf-false _ _ _ (ap not s)
     ∙ silence-responds p x o)
     ∙ d
 
@@ -105,16 +105,41 @@ exists8 p x h o =
       bytes = header-bytes 5 (p .pass) x (omega arith) (omega arith);
     }
 
--- what a running picture in NOTOK awaits
-awaits : (p : Picture) (sent : List Sent) → Running p sent → p .state ≡ NotOk → Awaits p sent
-awaits p sent r s =
+-- a picture on the way: its state, a pass that is the first one or later, and an open question
+record Way (fromOk : Bool) (n : ℕ) (p : Picture) : Type 0 where
+  state : p .state ≡ wayState fromOk (eqb (p .pass) n)
+  since : n ≤ p .pass
+  someOpen : any isOpen (p .rows) ≡ true
+
+-- a silence is taken on the way
+way-takes : (b t : Bool) (c x : ℕ) (s : State) → s ≡ wayState b t → takes s (NONE c x) ≡ true
+unfolding wayState takes
+way-takes b t c x s h = ap (λ (z : State). takes z (NONE c x)) h ∙ go (b && t)
+  where
+    go : (u : Bool) → takes (cond u Ok NotOk) (NONE c x) ≡ true
+    go true = refl
+    go false = refl
+
+-- what a running picture awaits on the way
+awaits : (b : Bool) (n : ℕ) (p : Picture) (sent : List Sent) → Running p sent → Way b n p → Awaits b n p sent
+awaits b n p sent r w =
     record {
-      notOk = s;
-      someOpen = some-open p (r .waits s);
+      state = w .state;
+      someOpen = some-open p (w .someOpen);
       current = r .current;
-      silence = λ x o q d m. silence-taken p x s o q d m;
+      silence = λ x o q d m. silence-taken p x (way-takes b (eqb (p .pass) n) (p .pass) x (p .state) (w .state)) o q d m;
       writable = λ x o. exists8 p x (r .sound) o;
     }
+
+-- it has arrived where no question is open
+none-open : (rows : List Row) → any isOpen rows ≡ false → (x : ℕ) → isOpen (rowAt rows x) ≡ false
+unfolding rowAt isOpen noRow isOpenStatus
+none-open rows h zero = refl
+none-open rows h (suc i) = all-everywhere {P = λ (r : Row). isOpen r ≡ false} i noRow refl (any-none isOpen rows h)
+
+arrived : (p : Picture) → p .state ≡ Ok → any isOpen (p .rows) ≡ false → Arrived p
+unfolding openAt
+arrived p s h = record { ok = s; closed = none-open (p .rows) h }
 
 -- while a question is open there is something left to answer
 level-open : (rows : List Row) → any isOpen rows ≡ true → 1 ≤ level rows
@@ -125,52 +150,97 @@ level-open rows h =
     let t = total-at work rows (f .0) noRow (f .1) in
     omega arith
 
--- the ring runs
-abbrev Going : Picture → Type 0
-Going p = (p .state ≡ NotOk) ⊎ (p .state ≡ Ok)
+-- the ring is on the way, or it has arrived
+abbrev Going : (fromOk : Bool) → ℕ → Picture → Type 0
+Going b n p = Way b n p ⊎ ((p .state ≡ Ok) × (any isOpen (p .rows) ≡ false))
 
-settled-goes : (c : Change) → c .picture .state ≡ NotOk → Going (pictureOf c)
-unfolding pictureOf ended settled withState withDelay
-settled-goes c h = go (becomesOk (c .picture))
+-- a change that keeps to the way, whatever questions it leaves open
+record Stays (b : Bool) (n : ℕ) (p : Picture) : Type 0 where
+  state : p .state ≡ wayState b (eqb (p .pass) n)
+  since : n ≤ p .pass
+
+settled-goes : (b : Bool) (n : ℕ) (c : Change) → Stays b n (c .picture) → Going b n (pictureOf c)
+unfolding pictureOf ended settled withState withDelay becomesOk isNotOk wayState
+settled-goes b n c h = go (any isOpen (c .picture .rows)) refl
   where
-    go : (b : Bool) → (cond b Ok (c .picture .state) ≡ NotOk) ⊎ (cond b Ok (c .picture .state) ≡ Ok)
-    go true = inr refl
-    go false = inl h
+    stays : (s : State) → cond (isNotOk s && false) Ok s ≡ s
+    stays Off = refl
+    stays NotOk = refl
+    stays Ok = refl
 
--- an answer or a silence in NOTOK leaves NOTOK, as far as its own step goes
-stays-ways : (p : Picture) → Ways p (λ (e : Event) (c : Change). isReply e ≡ true → p .state ≡ NotOk → c .picture .state ≡ NotOk)
-unfolding begin scan scanned shutDown changeRows withRows delayEnds keepAnswer isReply
-stays-ways p =
-    record {
-      starts = λ n l h s. refl;
-      rescans = λ n l h s. refl;
-      shuts = λ h s. clash h refl;
-      silences = λ c x i o h s. s;
-      delays = λ c d h s. s;
-      bars = λ c x a ps i o z h s. s;
-      ignores = λ c x a ps i o counts k z h s. s;
-      restarts = λ c x a ps i o counts b l h s. refl;
-      keeps = λ c x a ps i o k h s. s;
-    }
+    ends : (t : Bool) → cond (isNotOk (cond t Ok NotOk) && true) Ok (cond t Ok NotOk) ≡ Ok
+    ends true = refl
+    ends false = refl
 
--- a START or NCE leaves new rows
+    becomes : Bool → State
+    becomes o = cond (isNotOk (c .picture .state) && not o) Ok (c .picture .state)
+
+    go : (o : Bool) → any isOpen (c .picture .rows) ≡ o → Going b n (pictureOf c)
+    go true e = inl (record { state = ap becomes e ∙ stays (c .picture .state) ∙ h .state; since = h .since; someOpen = e })
+    go false e =
+        inr (ap becomes e ∙ ap (λ (s : State). cond (isNotOk s && true) Ok s) (h .state) ∙ ends (b && eqb (c .picture .pass) n), e)
+
+-- an answer or a silence for an open question keeps to the way: a restart opens a later pass, in NOTOK
+module _ (b : Bool) (n : ℕ) (p : Picture) where
+  restarted : n ≤ p .pass → NotOk ≡ wayState b (eqb (suc (p .pass)) n)
+  unfolding wayState
+  restarted h =
+      sym (ap (λ (t : Bool). cond (b && t) Ok NotOk) (ne-eqb (suc (p .pass)) n (λ e. absurd (omega (arith, e))))
+      ∙ ap (λ (t : Bool). cond t Ok NotOk) (and-none b))
+
+  stays-ways : Ways p (λ (e : Event) (c : Change). Allowed p (some e) → Way b n p → Stays b n (c .picture))
+  unfolding scan scanned changeRows withRows keepAnswer
+  stays-ways =
+      record {
+        starts = λ m l h. absurd h;
+        rescans = λ m l i h. absurd h;
+        rescansInOk = λ m l i h. absurd h;
+        shuts = λ h. absurd h;
+        silences = λ c x i o h w. record { state = w .state; since = w .since };
+        delays = λ c d h. absurd h;
+        bars = λ c x a ps i o z h w. record { state = w .state; since = w .since };
+        ignores = λ c x a ps i o counts k z h w. record { state = w .state; since = w .since };
+        restarts = λ c x a ps i o counts z l h w. record { state = restarted (w .since); since = omega (arith, w .since) };
+        keeps = λ c x a ps i o k h w. record { state = w .state; since = w .since };
+      }
+
+-- a START or NCE leaves new rows, and OK only where it came in OK
+record Begins (fromOk : Bool) (n : ℕ) (p : Picture) : Type 0 where
+  state : p .state ≡ wayState fromOk true
+  rows : p .rows ≡ replicate (n - 1) newRow
+
 begins-ways : (p : Picture) (n : ℕ)
-    → Ways p (λ (e : Event) (c : Change). Names (some e) n → (c .picture .state ≡ NotOk) × (c .picture .rows ≡ replicate (n - 1) newRow))
-unfolding begin scan scanned
+    → Ways p (λ (e : Event) (c : Change). takes (p .state) e ≡ true → Names (some e) n → Begins (isOk (p .state)) n (c .picture))
+unfolding begin scan scanned rescan rescanned takes isOk wayState
 begins-ways p n =
     record {
-      starts = λ m l h. (refl, ap (λ (k : ℕ). replicate (k - 1) newRow) h);
-      rescans = λ m l h. (refl, ap (λ (k : ℕ). replicate (k - 1) newRow) h);
-      shuts = λ h. absurd h;
-      silences = λ c x i o h. absurd h;
-      delays = λ c d h. absurd h;
-      bars = λ c x a ps i o z h. absurd h;
-      ignores = λ c x a ps i o counts k z h. absurd h;
-      restarts = λ c x a ps i o counts b l h. absurd h;
-      keeps = λ c x a ps i o k h. absurd h;
+      starts = λ m l t h. record { state = from-other (starts-off (p .state) m t); rows = ap new h };
+      rescans = λ m l i t h. record { state = from-other i; rows = ap new h };
+      rescansInOk = λ m l i t h. record { state = from-ok i; rows = ap new h };
+      shuts = λ t h. absurd h;
+      silences = λ c x i o t h. absurd h;
+      delays = λ c d t h. absurd h;
+      bars = λ c x a ps i o z t h. absurd h;
+      ignores = λ c x a ps i o counts k z t h. absurd h;
+      restarts = λ c x a ps i o counts b l t h. absurd h;
+      keeps = λ c x a ps i o k t h. absurd h;
     }
+  where
+    new : ℕ → List Row
+    new k = replicate (k - 1) newRow
 
--- a record that is allowed in NOTOK, counted if it is an answer or a silence, lowers the level by as much
+    from-ok : {b : Bool} → b ≡ true → Ok ≡ wayState b true
+    from-ok h = sym (ap (λ (t : Bool). cond (t && true) Ok NotOk) h)
+
+    from-other : {b : Bool} → b ≡ false → NotOk ≡ wayState b true
+    from-other h = sym (ap (λ (t : Bool). cond (t && true) Ok NotOk) h)
+
+    starts-off : (s : State) (m : ℕ) → takes s (START m) ≡ true → isOk s ≡ false
+    starts-off Off m t = refl
+    starts-off NotOk m t = refl
+    starts-off Ok m t = clash t refl
+
+-- a record that is allowed, counted if it is an answer or a silence, lowers the level by as much
 allowed-reply : (p : Picture) (e : Event) → Allowed p (some e) → isReply e ≡ true
 unfolding isReply
 allowed-reply p (START n) h = absurd h
@@ -180,29 +250,36 @@ allowed-reply p (ANSWER c x a ps) h = refl
 allowed-reply p (NONE c x) h = refl
 allowed-reply p (DELAY c) h = absurd h
 
-abbrev Moved : Picture → Option Event → Picture → Type 0
-Moved p e q = (countReply e + level (q .rows) ≤ level (p .rows)) × Going q
+module _ (b : Bool) (n : ℕ) where
+  abbrev Moved : Picture → Option Event → Picture → Type 0
+  Moved p e q = (countReply e + level (q .rows) ≤ level (p .rows)) × Going b n q
 
-moved-reply : (p : Picture) (e : Event) (c : Change) → respond p e ≡ change c → Formed e → isReply e ≡ true → p .state ≡ NotOk
-    → Moved p (some e) (pictureOf c)
-unfolding pictureOf ended settled withState withDelay countReply
-moved-reply p e c q f i s =
-    let l : level (c .picture .rows) < level (p .rows) = falls p e c q i f s in
-    let g = every-taken p _ (stays-ways p) e c q i s in
-    (rw i (omega arith), settled-goes c g)
+  moved-reply : (p : Picture) (e : Event) (c : Change) → respond p e ≡ change c → Formed e → Allowed p (some e) → Way b n p
+      → Moved p (some e) (pictureOf c)
+  unfolding pictureOf ended settled withState withDelay countReply
+  moved-reply p e c q f a w =
+      let l : level (c .picture .rows) < level (p .rows) = falls p e c q a f in
+      let i = allowed-reply p e a in
+      (rw i (omega arith), settled-goes b n c (every-taken p _ (stays-ways b n p) e c q a w))
 
-moves : (p : Picture) (r : Record) → p .state ≡ NotOk → Allowed p (accepted p r) → Moved p (accepted p r) (next p r)
-unfolding accepted ifTaken left countReply
-moves p r s = go (offered-cases p r)
-  where
-    go : {o : Outcome} → Offered p r o → Allowed p (ifTaken o (decode (r .bytes))) → Moved p (ifTaken o (decode (r .bytes))) (left p o)
-    go was-refused a = (omega arith, inl s)
-    go (was-taken {c} e d m t q) a =
-        subst (λ (z : Option Event). Allowed p z → Moved p z (pictureOf c)) (sym d)
-        (λ b. moved-reply p e c q (formed (r .bytes) e d) (allowed-reply p e b) s) a
+  moves : (p : Picture) (r : Record) → Way b n p → Allowed p (accepted p r) → Moved p (accepted p r) (next p r)
+  unfolding accepted ifTaken left countReply
+  moves p r w = go (offered-cases p r)
+    where
+      go : {o : Outcome} → Offered p r o → Allowed p (ifTaken o (decode (r .bytes))) → Moved p (ifTaken o (decode (r .bytes))) (left p o)
+      go was-refused a = (omega arith, inl w)
+      go (was-taken {c} e d m t q) a =
+          subst (λ (z : Option Event). Allowed p z → Moved p z (pictureOf c)) (sym d)
+          (λ y. moved-reply p e c q (formed (r .bytes) e d) y w) a
 
 -- an accepted START or NCE naming N positions begins at the bound
-begun : (p : Picture) (r : Record) (n : ℕ) → Names (accepted p r) n → (1 ≤ n) × (n ≤ maxNodes) × (level (next p r .rows) ≤ bound n) × Going (next p r)
+record Begun (p : Picture) (n : ℕ) (q : Picture) : Type 0 where
+  low : 1 ≤ n
+  high : n ≤ maxNodes
+  level : level (q .rows) ≤ bound n
+  going : Going (isOk (p .state)) (q .pass) q
+
+begun : (p : Picture) (r : Record) (n : ℕ) → Names (accepted p r) n → Begun p n (next p r)
 unfolding accepted ifTaken left bound pictureOf ended settled withState withDelay
 begun p r n = go (offered-cases p r)
   where
@@ -214,18 +291,23 @@ begun p r n = go (offered-cases p r)
     named (NONE c x) f h = absurd h
     named (DELAY c) f h = absurd h
 
-    start : (e : Event) (c : Change) → respond p e ≡ change c → Formed e → Names (some e) n
-        → (1 ≤ n) × (n ≤ maxNodes) × (level (pictureOf c .rows) ≤ bound n) × Going (pictureOf c)
-    start e c q f h =
+    start : (e : Event) (c : Change) → takes (p .state) e ≡ true → respond p e ≡ change c → Formed e → Names (some e) n → Begun p n (pictureOf c)
+    start e c t q f h =
         let k = named e f h in
-        let b = every-taken p _ (begins-ways p n) e c q h in
-        let l : level (c .picture .rows) ≡ suc (maxPairs * maxTries) * (n - 1) * (2 * n - 1) = ap level (b .1) ∙ level-begins n (k .0) in
-        (k .0, k .1, omega arith, settled-goes c (b .0))
+        let b = every-taken p _ (begins-ways p n) e c q t h in
+        let l : level (c .picture .rows) ≡ suc (maxPairs * maxTries) * (n - 1) * (2 * n - 1) = ap level (b .rows) ∙ level-begins n (k .0) in
+        let s : c .picture .state ≡ wayState (isOk (p .state)) (eqb (c .picture .pass) (c .picture .pass)) =
+        b .state ∙ ap (wayState (isOk (p .state))) (sym (eq-eqb (c .picture .pass) (c .picture .pass) refl)) in
+        record {
+          low = k .0;
+          high = k .1;
+          level = omega arith;
+          going = settled-goes (isOk (p .state)) (c .picture .pass) c (record { state = s; since = omega arith });
+        }
 
-    go : {o : Outcome} → Offered p r o → Names (ifTaken o (decode (r .bytes))) n
-        → (1 ≤ n) × (n ≤ maxNodes) × (level (left p o .rows) ≤ bound n) × Going (left p o)
+    go : {o : Outcome} → Offered p r o → Names (ifTaken o (decode (r .bytes))) n → Begun p n (left p o)
     go was-refused h = absurd h
-    go (was-taken {c} e d m t q) h = start e c q (formed (r .bytes) e d) (subst (λ (z : Option Event). Names z n) d h)
+    go (was-taken {c} e d m t q) h = start e c t q (formed (r .bytes) e d) (subst (λ (z : Option Event). Names z n) d h)
 
 -- only answers and silences for open questions are taken, record after record
 abbrev Only : Picture → List Record → Type 0
@@ -238,40 +320,42 @@ unfolding after
 only p [] d h = tt
 only p (r ∷ rs) d h = (h 0 (omega arith), only (next p r) rs d (λ j l. h (suc j) (omega arith)))
 
--- what comes of a list that goes on from a picture, with the places counted from there
-data Onward (p : Picture) (sent : List Sent) (rs : List Record) (b : ℕ) : Type 0 where
-  comes : (m : ℕ) → m ≤ length rs → after p (take m rs) .state ≡ Ok → repliesIn p (take m rs) ≤ b
-      → ((j : ℕ) → j < m → Awaits (after p (take j rs)) (sent ++ history p (take j rs))) → Onward p sent rs b
-  ends : repliesIn p rs < b → ((j : ℕ) → j ≤ length rs → Awaits (after p (take j rs)) (sent ++ history p (take j rs))) → Onward p sent rs b
+module _ (f : Bool) (n : ℕ) where
+  -- what comes of a list that goes on from a picture, with the places counted from there
+  data Onward (p : Picture) (sent : List Sent) (rs : List Record) (b : ℕ) : Type 0 where
+    comes : (m : ℕ) → m ≤ length rs → Arrived (after p (take m rs)) → repliesIn p (take m rs) ≤ b
+        → ((j : ℕ) → j < m → Awaits f n (after p (take j rs)) (sent ++ history p (take j rs))) → Onward p sent rs b
+    ends : repliesIn p rs < b → ((j : ℕ) → j ≤ length rs → Awaits f n (after p (take j rs)) (sent ++ history p (take j rs))) → Onward p sent rs b
 
--- one record in front
-onward-next : (p : Picture) (sent : List Sent) (r : Record) (rs : List Record) (b : ℕ) → Awaits p sent → countReply (accepted p r) ≤ b
-    → Onward (next p r) (sent ++ sentBy (offered p r)) rs (b - countReply (accepted p r)) → Onward p sent (r ∷ rs) b
-unfolding after history repliesIn
-onward-next p sent r rs b w k (comes m l s n h) = comes (suc m) (omega arith) s (omega arith) here
-  where
-    here : (j : ℕ) → j < suc m → Awaits (after p (take j (r ∷ rs))) (sent ++ history p (take j (r ∷ rs)))
-    here zero l = rw append-nil w
-    here (suc j) l = rw (← append-assoc) (h j (le-of-suc-le-suc l))
-onward-next p sent r rs b w k (ends n h) = ends (omega arith) here
-  where
-    here : (j : ℕ) → j ≤ suc (length rs) → Awaits (after p (take j (r ∷ rs))) (sent ++ history p (take j (r ∷ rs)))
-    here zero l = rw append-nil w
-    here (suc j) l = rw (← append-assoc) (h j (le-of-suc-le-suc l))
+  -- one record in front
+  onward-next : (p : Picture) (sent : List Sent) (r : Record) (rs : List Record) (b : ℕ) → Awaits f n p sent → countReply (accepted p r) ≤ b
+      → Onward (next p r) (sent ++ sentBy (offered p r)) rs (b - countReply (accepted p r)) → Onward p sent (r ∷ rs) b
+  unfolding after history repliesIn
+  onward-next p sent r rs b w k (comes m l s c h) = comes (suc m) (omega arith) s (omega arith) here
+    where
+      here : (j : ℕ) → j < suc m → Awaits f n (after p (take j (r ∷ rs))) (sent ++ history p (take j (r ∷ rs)))
+      here zero l = rw append-nil w
+      here (suc j) l = rw (← append-assoc) (h j (le-of-suc-le-suc l))
+  onward-next p sent r rs b w k (ends c h) = ends (omega arith) here
+    where
+      here : (j : ℕ) → j ≤ suc (length rs) → Awaits f n (after p (take j (r ∷ rs))) (sent ++ history p (take j (r ∷ rs)))
+      here zero l = rw append-nil w
+      here (suc j) l = rw (← append-assoc) (h j (le-of-suc-le-suc l))
 
-onward : (rs : List Record) (p : Picture) (sent : List Sent) (b : ℕ) → Running p sent → Going p → level (p .rows) ≤ b → Only p rs → Onward p sent rs b
-unfolding after history repliesIn
-onward [] p sent b r (inr s) l o = comes 0 (omega arith) s (omega arith) (λ j k. absurd (not-suc-le-zero k))
-onward (q ∷ rs) p sent b r (inr s) l o = comes 0 (omega arith) s (omega arith) (λ j k. absurd (not-suc-le-zero k))
-onward [] p sent b r (inl s) l o = let k = level-open (p .rows) (r .waits s) in ends (omega arith) here
-  where
-    here : (j : ℕ) → j ≤ 0 → Awaits (after p (take j [])) (sent ++ history p (take j []))
-    here zero k = rw append-nil (awaits p sent r s)
-    here (suc j) k = absurd (not-suc-le-zero k)
-onward (q ∷ rs) p sent b r (inl s) l o =
-    let m = moves p q s (o .0) in
-    onward-next p sent q rs b (awaits p sent r s) (omega (arith, m .0))
-    (onward rs (next p q) (sent ++ sentBy (offered p q)) (b - countReply (accepted p q)) (along-next Running running-taken p sent q r) (m .1) (omega (arith, m .0)) (o .1))
+  onward : (rs : List Record) (p : Picture) (sent : List Sent) (b : ℕ) → Running p sent → Going f n p → level (p .rows) ≤ b → Only p rs
+      → Onward p sent rs b
+  unfolding after history repliesIn
+  onward [] p sent b r (inr s) l o = comes 0 (omega arith) (arrived p (s .0) (s .1)) (omega arith) (λ j k. absurd (not-suc-le-zero k))
+  onward (q ∷ rs) p sent b r (inr s) l o = comes 0 (omega arith) (arrived p (s .0) (s .1)) (omega arith) (λ j k. absurd (not-suc-le-zero k))
+  onward [] p sent b r (inl w) l o = let k = level-open (p .rows) (w .someOpen) in ends (omega arith) here
+    where
+      here : (j : ℕ) → j ≤ 0 → Awaits f n (after p (take j [])) (sent ++ history p (take j []))
+      here zero k = rw append-nil (awaits f n p sent r w)
+      here (suc j) k = absurd (not-suc-le-zero k)
+  onward (q ∷ rs) p sent b r (inl w) l o =
+      let m = moves f n p q w (o .0) in
+      onward-next p sent q rs b (awaits f n p sent r w) (omega (arith, m .0))
+      (onward rs (next p q) (sent ++ sentBy (offered p q)) (b - countReply (accepted p q)) (along-next Running running-taken p sent q r) (m .1) (omega (arith, m .0)) (o .1))
 
 -- lists cut in two
 pub after-append : (p : Picture) (xs ys : List Record) → after p (xs ++ ys) ≡ after (after p xs) ys
@@ -318,26 +402,26 @@ module _ (l : ℕ) (rs : List Record) where
     unfolding stretch
     stretch-take d k = take-take d (e - i) (drop i rs) k
 
-    awaits-at : (j : ℕ) → i ≤ j → j ≤ e
-        → Awaits (after (pictureAt l rs i) (take (j - i) (stretch i e)))
+    awaits-at : (b : Bool) (n j : ℕ) → i ≤ j → j ≤ e
+        → Awaits b n (after (pictureAt l rs i) (take (j - i) (stretch i e)))
         (sentAt l rs i ++ history (pictureAt l rs i) (take (j - i) (stretch i e)))
-        → Awaits (pictureAt l rs j) (sentAt l rs j)
-    awaits-at j m k w =
+        → Awaits b n (pictureAt l rs j) (sentAt l rs j)
+    awaits-at b n j m k w =
         let f : i + (j - i) ≡ j = omega arith in
         let d : j - i ≤ e - i = omega arith in
-        subst (λ (z : ℕ). Awaits (pictureAt l rs z) (sentAt l rs z)) f
+        subst (λ (z : ℕ). Awaits b n (pictureAt l rs z) (sentAt l rs z)) f
         (rw (stretch-take (j - i) d, picture-split i (j - i), sent-split i (j - i)) at w)
 
-    reached : (n : ℕ) → Onward (pictureAt l rs i) (sentAt l rs i) (stretch i e) (bound n) → Reaches l rs i e n
+    reached : (b : Bool) (n : ℕ) → Onward b (pictureAt l rs i .pass) (pictureAt l rs i) (sentAt l rs i) (stretch i e) (bound n) → Reaches l rs b i e n
     unfolding repliesBetween stretch
-    reached n (comes m k s r w) =
+    reached b n (comes m k s r w) =
         let f = stretch-length in
         let d : m ≤ e - i = omega arith in
         let c : i + m - i ≡ m = omega arith in
         arrives (i + m) (omega arith) (omega arith) (rw (stretch-take m d, picture-split i m) at s)
         (rw c (rw (stretch-take m d) at r))
-        (λ j a b. awaits-at j a (omega arith) (w (j - i) (omega arith)))
-    reached n (ends r w) = let f = stretch-length in holdsFewer r (λ j a b. awaits-at j a b (w (j - i) (omega arith)))
+        (λ j x y. awaits-at b (pictureAt l rs i .pass) j x (omega arith) (w (j - i) (omega arith)))
+    reached b n (ends r w) = let f = stretch-length in holdsFewer r (λ j x y. awaits-at b (pictureAt l rs i .pass) j x y (w (j - i) (omega arith)))
 
 -- Demand 3, whole.
 pub demand3 : (l : ℕ) (rs : List Record) → Demand3 l rs
@@ -347,16 +431,16 @@ demand3 l rs =
   where
     reaches : (i e n : ℕ) → i < e → e ≤ length rs → Names (accepted (pictureAt l rs i) (recordAt rs i)) n
         → ((j : ℕ) → i < j → j < e → Allowed (pictureAt l rs j) (accepted (pictureAt l rs j) (recordAt rs j)))
-        → (1 ≤ n) × (n ≤ maxNodes) × Reaches l rs (suc i) e n
+        → (1 ≤ n) × (n ≤ maxNodes) × Reaches l rs (isOk (pictureAt l rs i .state)) (suc i) e n
     reaches i e n h g m a =
-        let b = begun (pictureAt l rs i) (recordAt rs i) n m in
         let f = picture-next l rs i (omega arith) in
+        let b : Begun (pictureAt l rs i) n (pictureAt l rs (suc i)) = subst (Begun (pictureAt l rs i) n) f (begun (pictureAt l rs i) (recordAt rs i) n m) in
         let s = stretch-length l rs (suc i) e h g in (
-          b .0,
-          b .1,
-          reached l rs (suc i) e h g n
-              (onward (stretch l rs (suc i) e) (pictureAt l rs (suc i)) (sentAt l rs (suc i)) (bound n) (running-at l rs (suc i))
-              (subst Going f (b .3)) (subst (λ (p : Picture). level (p .rows) ≤ bound n) f (b .2))
+          b .low,
+          b .high,
+          reached l rs (suc i) e h g (isOk (pictureAt l rs i .state)) n
+              (onward (isOk (pictureAt l rs i .state)) (pictureAt l rs (suc i) .pass) (stretch l rs (suc i) e) (pictureAt l rs (suc i))
+              (sentAt l rs (suc i)) (bound n) (running-at l rs (suc i)) (b .going) (b .level)
               (only (pictureAt l rs (suc i)) (stretch l rs (suc i) e) _ (λ j k. allowed j (omega arith)))),
         )
       where

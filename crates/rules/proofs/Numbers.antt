@@ -17,7 +17,7 @@ use Rattle.rules.specs.Picture.{Ok, isOk, Pair, samePair, Row, Picture, 
 use Rattle.rules.specs.Event.{Event, START, NCE, SHUTDOWN, ANSWER, NONE, DELAY, be4, decode}
 use Rattle.rules.specs.Renumber.{isIn}
 use Rattle.rules.specs.Order.{NOTOK}
-use Rattle.rules.specs.Step.{Response, refuse, change, refuseIf, begin, Verdict, barred, outside, duplicate, changed, fine, verdict, nobody, counted, atLimit, conflict, answer, notTaken, respond}
+use Rattle.rules.specs.Step.{Response, refuse, change, refuseIf, networkChange, Verdict, barred, outside, duplicate, changed, fine, verdict, nobody, counted, atLimit, conflict, answer, notTaken, respond}
 use Rattle.rules.specs.Run.{Outcome, refused, taken, onEvent, onDecoded, concluded, step, Record, offered, left, after, next}
 use Rattle.rules.specs.Listing.{Entry, Lookup, found, notFound, firstOf, listing, lookUp}
 use Rattle.rules.specs.Telegram.{telIdOf, countOf, telegramOf, Count, uncounted, countIs, count, Cut, uncut, cutTo, cut, Joining, idle, opened, Join, unjoined, stillOpen, complete, Joined, unchanged, dropped, begins, continues, joinTo, malformed, join}
@@ -225,7 +225,7 @@ module _ (l : ℕ) where
   rescanned : (k : ℕ) → k < maxPass → next (alone k) rescan ≡ alone (suc k)
   unfolding playPicture hex alone rescan
   rescanned k h =
-      ap (λ (b : Bool). left (alone k) (concluded (alone k) (refuseIf b 9 (change (begin (NOTOK ∷ []) 1 (alone k)))))) (lt-leb maxPass k h)
+      ap (λ (b : Bool). left (alone k) (concluded (alone k) (refuseIf b 9 (change (networkChange 1 (alone k)))))) (lt-leb maxPass k h)
 
   rescans : (m k : ℕ) → k + m ≤ maxPass → after (alone k) (replicate m rescan) ≡ alone (k + m)
   unfolding after

@@ -429,7 +429,9 @@ rows-size : (p : Picture) (c : Change) → c .first ≡ [] → c .packing ≡ ro
 unfolding total
 rows-size p c f k s h =
     let o = orders-size p c in
-    let t : total sizeOf (told (c .packing) p (c .picture)) ≤ _ = rw k (told-size p (c .picture)) in
+    let t = told-size p (c .picture) in
+    let g : told (c .packing) p (c .picture) ≡ told rowsSeparately p (c .picture) = ap (λ (y : Packing). told y p (c .picture)) k in
+    let u = ap (total sizeOf) g in
     let z = ending-size (c .picture) in
     let e : total sizeOf (c .first) ≡ 0 = ap (total sizeOf) f in
     omega arith

@@ -298,7 +298,7 @@ cases =
     ∷ gives 7 0x4D4F_03_00000003
     ∷ gives 20 0x4D4F_06_00000003_01_2201_4D4F_06_00000003_01_2203
     ∷ gives 10 0x4D4F_06_00000003_01_2202
-    ∷ gives 23 0x4D4F_04_00000004_4D4F_01_00000004_01_4D4F_01_00000004_02
+    ∷ gives 16 0x4D4F_01_00000004_01_4D4F_01_00000004_02
     ∷ []))
     ∷ edge (listingAfter 12 conflictsInOk) (listing [])
     -- c: a unit that stands at 2 takes the other with it; d: a changed address; the freed address is taken again
@@ -389,14 +389,14 @@ cases =
     (gives 16 0x4D4F_01_00000001_01_4D4F_01_00000001_02
     ∷ noOrders
     ∷ gives 14 0x4D4F_03_00000001_4D4F_07_00000001
-    ∷ gives 31 0x4D4F_04_00000002_4D4F_01_00000002_01_4D4F_01_00000002_02_4D4F_01_00000002_03
+    ∷ gives 34 0x4D4F_01_00000002_01_4D4F_01_00000002_02_4D4F_01_00000002_03_4D4F_06_00000002_01_2201
     ∷ refusal 8
     ∷ noOrders
     ∷ noOrders
-    ∷ gives 14 0x4D4F_03_00000002_4D4F_07_00000002
-    ∷ gives 15 0x4D4F_04_00000003_4D4F_01_00000003_01
+    ∷ gives 7 0x4D4F_07_00000002
+    ∷ gives 8 0x4D4F_01_00000003_01
     ∷ refusal 6
-    ∷ gives 14 0x4D4F_03_00000003_4D4F_07_00000003
+    ∷ gives 7 0x4D4F_07_00000003
     ∷ gives 8 0x4D4F_01_00000003_01
     ∷ gives 15 0x4D4F_04_00000004_4D4F_01_00000004_01
     ∷ refusal 8

@@ -259,8 +259,8 @@ corners =
     ∷ gives 8 0x4D4F_01_00000002_01
     ∷ gives 7 0x4D4F_03_00000002
     ∷ gives 48 0x4D4F_05_00000002_0E_2201_2202_2203_2204_2205_2206_2207_2208_2209_220A_220B_220C_220D_220E_4D4F_05_00000002_02_220F_2210
-    ∷ gives 15 0x4D4F_04_00000003_4D4F_01_00000003_01
-    ∷ gives 14 0x4D4F_03_00000003_4D4F_07_00000003
+    ∷ gives 56 0x4D4F_01_00000003_01_4D4F_06_00000003_0E_2201_2202_2203_2204_2205_2206_2207_2208_2209_220A_220B_220C_220D_220E_4D4F_06_00000003_02_220F_2210
+    ∷ gives 7 0x4D4F_07_00000003
     ∷ gives 8 0x4D4F_01_00000003_01
     ∷ gives 48 0x4D4F_05_00000003_0E_2201_2202_2203_2204_2205_2206_2207_2208_2209_220A_220B_220C_220D_220E_4D4F_05_00000003_02_220F_2210
     ∷ gives 15 0x4D4F_04_00000004_4D4F_01_00000004_01
@@ -311,8 +311,8 @@ corners =
     ++ gives 8 0x4D4F_01_00000001_01
     ∷ gives 15 0x4D4F_04_00000002_4D4F_01_00000002_01
     ∷ gives 14 0x4D4F_03_00000002_4D4F_08_00000002
-    ∷ gives 15 0x4D4F_04_00000003_4D4F_01_00000003_01
-    ∷ gives 14 0x4D4F_03_00000003_4D4F_07_00000003
+    ∷ gives 8 0x4D4F_01_00000003_01
+    ∷ gives 7 0x4D4F_07_00000003
     ∷ []))
     -- silence counts stay over a restart that another unit causes; its row counts below 20 and is not SILENT, so the wait is long
     ∷ edge
@@ -742,15 +742,15 @@ corners =
     -- the room comes before all else: 1 for a malformed record, in OFF and while the ring runs
     ∷ edge
     (records 12
-    (record { bytes = []; room = 511 }
+    (record { bytes = []; room = 8_191 }
     ∷ record { bytes = hex 2 0x4D45; room = 0 }
-    ∷ record { bytes = hex 8 0x4D45_02_00000000_03; room = 511 }
+    ∷ record { bytes = hex 8 0x4D45_02_00000000_03; room = 8_191 }
     ∷ withRoom 8 0x4D45_01_00000000_02
-    ∷ record { bytes = hex 8 0x4D45_01_00000000_02; room = 511 }
-    ∷ record { bytes = hex 8 0x4D45_01_00000000_41; room = 511 }
-    ∷ record { bytes = hex 8 0x4D45_05_00000000_01; room = 511 }
-    ∷ record { bytes = hex 8 0x4D45_05_00000001_02; room = 511 }
-    ∷ record { bytes = hex 8 0x4D45_05_00000001_01; room = 511 }
+    ∷ record { bytes = hex 8 0x4D45_01_00000000_02; room = 8_191 }
+    ∷ record { bytes = hex 8 0x4D45_01_00000000_41; room = 8_191 }
+    ∷ record { bytes = hex 8 0x4D45_05_00000000_01; room = 8_191 }
+    ∷ record { bytes = hex 8 0x4D45_05_00000001_02; room = 8_191 }
+    ∷ record { bytes = hex 8 0x4D45_05_00000001_01; room = 8_191 }
     ∷ withRoom 0 0
     ∷ withRoom 8 0x4D45_01_00000000_41
     ∷ withRoom 8 0x4D45_05_00000001_01
@@ -945,7 +945,7 @@ corners =
     ∷ gives 15 0x4D4F_04_00000005_4D4F_01_00000005_01
     ∷ gives 15 0x4D4F_04_00000006_4D4F_01_00000006_01
     ∷ gives 7 0x4D4F_03_00000006
-    ∷ gives 15 0x4D4F_04_00000007_4D4F_01_00000007_01
+    ∷ gives 8 0x4D4F_01_00000007_01
     ∷ gives 15 0x4D4F_04_00000008_4D4F_01_00000008_01
     ∷ []))
     -- NOTOK: a, b and c for SETTING rows; c comes before d and counts the other row

@@ -68,8 +68,8 @@ edges =
     ∷ gives 13 0x4D4F_02_00000001_01_0101_22_FF_02
     ∷ gives 7 0x4D4F_03_00000001
     ∷ []))
-    -- * room 511 refusal 1; 512 taken
-    ∷ edge (records 12 (record { bytes = hex 8 0x4D45_01_00000000_01; room = 511 } ∷ record { bytes = hex 8 0x4D45_01_00000000_01; room = 512 } ∷ []))
+    -- * room 8,191 refusal 1; 8,192 taken
+    ∷ edge (records 12 (record { bytes = hex 8 0x4D45_01_00000000_01; room = 8_191 } ∷ record { bytes = hex 8 0x4D45_01_00000000_01; room = 8_192 } ∷ []))
     (results (refusal 1 ∷ gives 7 0x4D4F_03_00000001 ∷ []))
     -- * NONE of an old pass after NCE, 5
     ∷ edge (records 12 (withRoom 8 0x4D45_01_00000000_02 ∷ withRoom 8 0x4D45_02_00000000_02 ∷ withRoom 8 0x4D45_05_00000001_01 ∷ []))
@@ -139,8 +139,8 @@ edges =
     (gives 16 0x4D4F_01_00000001_01_4D4F_01_00000001_02
     ∷ noOrders
     ∷ gives 7 0x4D4F_03_00000001
-    ∷ gives 23 0x4D4F_04_00000002_4D4F_01_00000002_01_4D4F_01_00000002_02
-    ∷ noOrders
+    ∷ gives 28 0x4D4F_01_00000002_01_4D4F_01_00000002_02_4D4F_06_00000002_02_2201_2202
+    ∷ gives 10 0x4D4F_05_00000002_01_2201
     ∷ gives 13 0x4D4F_02_00000002_02_0101_22_01_02
     ∷ []))
     -- a silent unit does not hold back OK

@@ -1,9 +1,10 @@
--- The three tables hold, by computation.
+-- The four tables hold, by computation.
 use mathlib.Core.Path.{_≡_, refl}
 use Rattle.rules.specs.Table.{hex, obtain, obtained, expected}
 use Rattle.rules.specs.Edges.{edges}
 use Rattle.rules.specs.Cases.{cases}
 use Rattle.rules.specs.Corners.{corners}
+use Rattle.rules.specs.RingChanges.{ringChanges}
 
 pub edgesHold : obtained edges ≡ expected edges
 unfolding obtained expected edges obtain hex
@@ -16,3 +17,7 @@ casesHold = refl
 pub cornersHold : obtained corners ≡ expected corners
 unfolding obtained expected corners obtain hex
 cornersHold = refl
+
+pub ringChangesHold : obtained ringChanges ≡ expected ringChanges
+unfolding obtained expected ringChanges obtain hex
+ringChangesHold = refl

@@ -10,6 +10,7 @@ pub mod Questions
 pub mod Runs
 pub mod Distinct
 pub mod Demand3
+pub mod RingChange
 pub mod Sizes
 pub mod Off
 pub mod Records

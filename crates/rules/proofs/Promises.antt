@@ -10,6 +10,7 @@ use Rattle.rules.specs.House.{minSize, maxSize}
 use Rattle.rules.specs.Picture.{legalSize}
 use Rattle.rules.specs.Promises.{Promises}
 use Rattle.rules.proofs.Demand3.{demand3}
+use Rattle.rules.proofs.RingChange.{ringChange}
 use Rattle.rules.proofs.Records.{bounds, fits, refusal, carried}
 use Rattle.rules.proofs.Free.{freeNumbers}
 use Rattle.rules.proofs.Aimed.{setsAimed}
@@ -21,8 +22,8 @@ use Rattle.rules.proofs.States.{statesByKinds}
 use Rattle.rules.proofs.Values.{values}
 use Rattle.rules.proofs.Numbers.{numbers}
 use Rattle.rules.proofs.RoundTrip.{roundTrip, cuts, lengths}
-use Rattle.rules.proofs.Edges.{edgesHold, casesHold, cornersHold}
-use Rattle.rules.proofs.Tight.{longestWay}
+use Rattle.rules.proofs.Edges.{edgesHold, casesHold, cornersHold, ringChangesHold}
+use Rattle.rules.proofs.Tight.{longestAtStart, longestAtChange, longestAtChangeInOk}
 
 legal : (size : ℕ) → minSize ≤ size → size ≤ maxSize → legalSize size ≡ true
 unfolding legalSize
@@ -32,6 +33,7 @@ pub promises : Promises
 promises =
     record {
       demand3 = demand3;
+      ringChange = ringChange;
       bounds = bounds;
       fits = fits;
       unbarred = unbarred;
@@ -51,5 +53,8 @@ promises =
       edges = edgesHold;
       cases = casesHold;
       corners = cornersHold;
-      longestWay = longestWay;
+      ringChanges = ringChangesHold;
+      longestAtStart = longestAtStart;
+      longestAtChange = longestAtChange;
+      longestAtChangeInOk = longestAtChangeInOk;
     }

@@ -1,10 +1,19 @@
--- The longest way to OK, by computation.
+-- The longest ways, by computation.
 use mathlib.Core.Path.{refl}
+use Rattle.rules.specs.Picture.{Off, NotOk, Ok}
 use Rattle.rules.specs.Evaluate.{playPicture}
-use Rattle.rules.specs.Claims.{ifTaken, accepted, isReply, countReply, repliesIn, pictureAt, repliesBetween, bound}
+use Rattle.rules.specs.Claims.{wayState, ifTaken, accepted, isReply, countReply, repliesIn, pictureAt, repliesBetween, bound}
 use Rattle.rules.specs.Table.{hex}
-use Rattle.rules.specs.Tight.{stubbornly, outOfRange, longest, LongestWay}
+use Rattle.rules.specs.Tight.{stubbornly, outOfRange, lies, atStart, atChange, atChangeInOk, LongestWay}
 
-pub longestWay : LongestWay
-unfolding playPicture ifTaken accepted isReply countReply repliesIn pictureAt repliesBetween bound hex stubbornly outOfRange longest
-longestWay = record { atBound = refl; notBefore = refl; then = refl }
+pub longestAtStart : LongestWay Off atStart 1
+unfolding playPicture wayState ifTaken accepted isReply countReply repliesIn pictureAt repliesBetween bound hex stubbornly outOfRange lies atStart
+longestAtStart = record { begins = refl; firstPass = refl; restarts = refl; atBound = refl; notBefore = refl; ok = refl; closed = refl }
+
+pub longestAtChange : LongestWay NotOk atChange 2
+unfolding playPicture wayState ifTaken accepted isReply countReply repliesIn pictureAt repliesBetween bound hex stubbornly outOfRange lies atChange
+longestAtChange = record { begins = refl; firstPass = refl; restarts = refl; atBound = refl; notBefore = refl; ok = refl; closed = refl }
+
+pub longestAtChangeInOk : LongestWay Ok atChangeInOk 3
+unfolding playPicture wayState ifTaken accepted isReply countReply repliesIn pictureAt repliesBetween bound hex stubbornly outOfRange lies atChangeInOk
+longestAtChangeInOk = record { begins = refl; firstPass = refl; restarts = refl; atBound = refl; notBefore = refl; ok = refl; closed = refl }

@@ -14,5 +14,6 @@ pub mod Table
 pub mod Edges
 pub mod Cases
 pub mod Corners
+pub mod RingChanges
 pub mod Tight
 pub mod Promises

@@ -3,20 +3,22 @@ use Prim.Native.Nat.{ℕ, _^_, _<_, _≤_}
 use mathlib.Core.Path.{_≡_}
 use mathlib.Core.List.{List}
 use lib.ListN.{length}
-use Rattle.rules.specs.Picture.{Pair, Picture}
+use Rattle.rules.specs.Picture.{Off, NotOk, Ok, Pair, Picture}
 use Rattle.rules.specs.Event.{Event}
 use Rattle.rules.specs.Run.{Record}
 use Rattle.rules.specs.Telegram.{Joining}
-use Rattle.rules.specs.Claims.{Demand3, Bounds, Fits, Refusal, Carried, SetsAimed, Unbarred, EmptyInOff, FreeNumber, Decodes, DecodesOnly, StatesByKinds, Values, Numbers, RoundTrip, Cuts, Lengths}
+use Rattle.rules.specs.Claims.{Demand3, RingChange, Bounds, Fits, Refusal, Carried, SetsAimed, Unbarred, EmptyInOff, FreeNumber, Decodes, DecodesOnly, StatesByKinds, Values, Numbers, RoundTrip, Cuts, Lengths}
 use Rattle.rules.specs.Table.{obtained, expected}
 use Rattle.rules.specs.Edges.{edges as edgeTable}
 use Rattle.rules.specs.Cases.{cases as caseTable}
 use Rattle.rules.specs.Corners.{corners as cornerTable}
-use Rattle.rules.specs.Tight.{LongestWay}
+use Rattle.rules.specs.RingChanges.{ringChanges as ringChangeTable}
+use Rattle.rules.specs.Tight.{atStart, atChange, atChangeInOk, LongestWay}
 
 pub record Promises : Type 0 where
   -- of every list of records from a fresh picture for L; a picture for an L that is not 12 to 45 is one for 12
   pub demand3 : (l : ℕ) (rs : List Record) → Demand3 l rs
+  pub ringChange : (l : ℕ) (rs : List Record) → RingChange l rs
   pub bounds : (l : ℕ) (rs : List Record) → Bounds l rs
   pub fits : (l : ℕ) (rs : List Record) → Fits l rs
   pub unbarred : (l : ℕ) (rs : List Record) → Unbarred l rs
@@ -45,4 +47,7 @@ pub record Promises : Type 0 where
   pub edges : obtained edgeTable ≡ expected edgeTable
   pub cases : obtained caseTable ≡ expected caseTable
   pub corners : obtained cornerTable ≡ expected cornerTable
-  pub longestWay : LongestWay
+  pub ringChanges : obtained ringChangeTable ≡ expected ringChangeTable
+  pub longestAtStart : LongestWay Off atStart 1
+  pub longestAtChange : LongestWay NotOk atChange 2
+  pub longestAtChangeInOk : LongestWay Ok atChangeInOk 3

@@ -1,16 +1,17 @@
--- A list that reaches the bound: the longest way to OK of a ring of two.
-use Prim.Native.Nat.{ℕ}
+-- Lists that reach the bound: the longest way of a ring of two to OK with no question open.
+use Prim.Native.Nat.{ℕ, suc, _+_, _-_}
 use mathlib.Core.Path.{_≡_}
+use mathlib.Core.Bool.{true, false}
 use mathlib.Core.List.{List, [], _∷_, _++_}
-use lib.ListN.{length, replicate}
-use Rattle.laws.specs.Lists.{collect}
+use lib.ListN.{replicate}
+use Rattle.laws.specs.Lists.{any, collect}
 use Rattle.rules.specs.House.{minRoom}
-use Rattle.rules.specs.Picture.{NotOk, Ok}
-use Rattle.rules.specs.Run.{Record, offered, written}
-use Rattle.rules.specs.Claims.{pictureAt, recordAt, repliesBetween, bound}
+use Rattle.rules.specs.Picture.{State, NotOk, Ok, isOk, isOpen, openAt}
+use Rattle.rules.specs.Run.{Record}
+use Rattle.rules.specs.Claims.{wayState, pictureAt, repliesBetween, bound}
 use Rattle.rules.specs.Table.{hex, withRoom}
 
--- 16 pairs that are never renumbered, and an address that is out of range, both from position 1 in pass 1 to 3
+-- 16 pairs that are never renumbered, and an address that is out of range, both from position 1 in a pass below 256
 unfoldable pub stubbornly : ℕ → Record
 stubbornly pass =
     record { bytes = hex 6 0x4D45_04_000000 ++ pass ∷ hex 4 0x01_0101_10 ++ collect (λ (n : ℕ). 0x22 ∷ n ∷ []) (replicate 16 0x00); room = minRoom }
@@ -18,18 +19,32 @@ stubbornly pass =
 unfoldable pub outOfRange : ℕ → Record
 outOfRange pass = record { bytes = hex 6 0x4D45_04_000000 ++ pass ∷ hex 4 0x01_0100_00; room = minRoom }
 
--- 48 SETs and an address conflict in each of two passes, 48 SETs and an end in the third
-unfoldable pub longest : List Record
-longest =
-    withRoom 8 0x4D45_01_00000000_02
-    ∷ replicate 48 (stubbornly 1)
-    ++ outOfRange 1
-    ∷ replicate 48 (stubbornly 2)
-    ++ outOfRange 2
-    ∷ replicate 49 (stubbornly 3)
+-- 48 SETs and an address conflict in each of two passes, n and the next, 48 SETs and an end in the third
+unfoldable pub lies : ℕ → List Record
+lies n =
+    replicate 48 (stubbornly n)
+    ++ outOfRange n
+    ∷ replicate 48 (stubbornly (suc n))
+    ++ outOfRange (suc n)
+    ∷ replicate 49 (stubbornly (suc (suc n)))
 
--- the 147th answer brings OK, the 146th does not
-pub record LongestWay : Type 0 where
-  pub atBound : repliesBetween 12 longest 1 148 ≡ bound 2
-  pub notBefore : pictureAt 12 longest 147 .state ≡ NotOk
-  pub then : pictureAt 12 longest 148 .state ≡ Ok
+-- a START, an NCE in NOTOK and an NCE in OK meet the liar
+unfoldable pub atStart : List Record
+atStart = withRoom 8 0x4D45_01_00000000_02 ∷ lies 1
+
+unfoldable pub atChange : List Record
+atChange = withRoom 8 0x4D45_01_00000000_02 ∷ withRoom 8 0x4D45_02_00000000_02 ∷ lies 2
+
+unfoldable pub atChangeInOk : List Record
+atChangeInOk = withRoom 8 0x4D45_01_00000000_02 ∷ withRoom 13 0x4D45_04_00000001_01_0101_01_2201 ∷ withRoom 8 0x4D45_02_00000000_02 ∷ lies 2
+
+-- The way begins at place i, behind a START or NCE that came in a state. After 48 answers the state is still the one of its first pass,
+-- and the 49th restarts; the 147th brings OK with no question open, the 146th does not.
+pub record LongestWay (came : State) (rs : List Record) (i : ℕ) : Type 0 where
+  pub begins : pictureAt 12 rs (i - 1) .state ≡ came
+  pub firstPass : pictureAt 12 rs (i + 48) .state ≡ wayState (isOk came) true
+  pub restarts : pictureAt 12 rs (i + 49) .state ≡ NotOk
+  pub atBound : repliesBetween 12 rs i (i + 147) ≡ bound 2
+  pub notBefore : openAt (pictureAt 12 rs (i + 146)) 1 ≡ true
+  pub ok : pictureAt 12 rs (i + 147) .state ≡ Ok
+  pub closed : any isOpen (pictureAt 12 rs (i + 147) .rows) ≡ false

@@ -41,7 +41,7 @@ extern "C" {
 #define LATHEPETAL_MAX_SIZE 45       /* to here */
 #define LATHEPETAL_MAX_UNITS 63      /* units with an entry: positions 1 and above */
 #define LATHEPETAL_MAX_PAIRS 16      /* pairs that an entry keeps */
-#define LATHEPETAL_MIN_ROOM 512      /* the least room for orders, which is enough for each record */
+#define LATHEPETAL_MIN_ROOM 8192     /* the least room for orders, which is enough for each record */
 #define LATHEPETAL_MAX_PAYLOAD 65535 /* the longest message, and the least join buffer */
 /* The entries of a picture, one for each unit; the places of a listing; the longest telegram. */
 #define LATHEPETAL_MAX_ENTRIES LATHEPETAL_MAX_UNITS

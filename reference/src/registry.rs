@@ -324,8 +324,7 @@ impl Ring {
         self.check(&event)?;
         let mut orders = Orders::new(out);
         match event {
-            Event::Start { nodes } => self.scan_anew(nodes, false, &mut orders),
-            Event::NetworkChange { nodes } => self.scan_anew(nodes, true, &mut orders),
+            Event::Start { nodes } | Event::NetworkChange { nodes } => self.scan_anew(nodes, &mut orders),
             Event::Shutdown => *self = Ring::off(self.pass, self.payload_size),
             Event::Answer { position, announcement, .. } => self.answer(position, &announcement, &mut orders)?,
             Event::NoAnswer { position, .. } => self.no_answer(position, &mut orders),
@@ -378,18 +377,25 @@ impl Ring {
         Ok(row.status.is_open())
     }
 
-    /// START and NCE: fresh rows for `nodes`, each asked, in a new pass.
-    fn scan_anew(&mut self, nodes: u8, tell: bool, orders: &mut Orders) {
-        *self = Ring::off(self.pass + 1, self.payload_size);
-        self.state = State::NotOk;
-        self.nodes = nodes;
-        self.open = nodes - 1;
-        if tell {
-            orders.not_ok(self.pass);
+    /// START and NCE: a new pass, fresh rows for `nodes`, each asked. START sets NOTOK, and an NCE in NOTOK tells it first;
+    /// an NCE in OK keeps OK, and every pair listed so far is told INVALID, packed across rows in listing order.
+    fn scan_anew(&mut self, nodes: u8, orders: &mut Orders) {
+        let pass = self.pass + 1;
+        if self.state == State::NotOk {
+            orders.not_ok(pass);
         }
         for position in 1..nodes {
-            orders.ask(self.pass, position);
+            orders.ask(pass, position);
         }
+        let keeps_ok = self.state == State::Ok;
+        if keeps_ok {
+            let listed = self.rows().flat_map(|(_, row)| row.pairs());
+            orders.invalid(pass, pairs_per_order(self.payload_size), listed);
+        }
+        *self = Ring::off(pass, self.payload_size);
+        self.state = if keeps_ok { State::Ok } else { State::NotOk };
+        self.nodes = nodes;
+        self.open = nodes - 1;
     }
 
     /// A new pass after a bad announcement: every row that is not IGNORED is emptied and asked.
@@ -491,10 +497,10 @@ impl Ring {
         self.holders.set(announcement.address, position);
         self.rows[position as usize].silences = 0;
         if self.state == State::Ok {
-            let after = &self.rows[position as usize];
+            let (old, new) = (before.pairs(), self.rows[position as usize].pairs());
             let size = pairs_per_order(self.payload_size);
-            orders.invalid(self.pass, size, before.pairs(), after.pairs());
-            orders.new_pairs(self.pass, size, before.pairs(), after.pairs());
+            orders.invalid(self.pass, size, old.iter().filter(|pair| !new.contains(pair)));
+            orders.new_pairs(self.pass, size, new.iter().filter(|pair| !old.contains(pair)));
         }
         let status = self.renumber(position, before.status, announcement, bad_pairs, orders);
         self.set_status(position, status);
@@ -556,7 +562,7 @@ impl Ring {
     fn tell_invalid(&self, position: u8, orders: &mut Orders) {
         if self.state == State::Ok {
             let lost = self.rows[position as usize].pairs();
-            orders.invalid(self.pass, pairs_per_order(self.payload_size), lost, &[]);
+            orders.invalid(self.pass, pairs_per_order(self.payload_size), lost);
         }
     }
 

@@ -9,7 +9,7 @@ pub const MAX_PAIRS: usize = 16;
 /// The most entries of a listing.
 pub const MAX_LISTED: usize = MAX_UNITS * MAX_PAIRS;
 /// The least order room.
-pub const MIN_ROOM: usize = 512;
+pub const MIN_ROOM: usize = 8192;
 
 /// The least payload size L of a telegram, and the greatest.
 pub const MIN_SIZE: usize = 12;

@@ -187,7 +187,8 @@ fn normal_forms() {
 #[test]
 fn order_lines_in_words() {
     let script = "> 4D45 01 00000000 03\n> 4D45 04 00000001 01 0101 01 2201\n> 4D45 04 00000001 02 0102 01 2201\n> 4D45 04 00000001 02 0102 01 2202
-> 4D45 04 00000001 02 0102 02 3101 3102\n> 4D45 04 00000001 02 0102 01 2200\n> 4D45 05 00000001 02\n> 4D45 02 00000000 02\n";
+> 4D45 04 00000001 02 0102 02 3101 3102\n> 4D45 04 00000001 02 0102 01 2200\n> 4D45 05 00000001 02\n> 4D45 02 00000000 02
+> 4D45 04 00000002 01 0300 00\n";
     let output = String::from_utf8(ringbox(script.as_bytes())).expect("text");
     let answers: Vec<&str> = output.lines().filter(|line| line.starts_with('<')).collect();
     assert_eq!(
@@ -202,8 +203,10 @@ fn order_lines_in_words() {
             "< 4D4F 06 00000001 02 3101 3102  INVALID: 31.01 31.02",
             "< 4D4F 02 00000001 02 0102 22 00 02  SET position 2 (0102): 22.00 becomes 22.02",
             "< 4D4F 07 00000001  WAIT SHORT: then DELAY asks the silent units",
-            "< 4D4F 04 00000002  NOTOK: the registry is made anew",
             "< 4D4F 01 00000002 01  ASK position 1",
+            "< 4D4F 06 00000002 01 2201  INVALID: 22.01",
+            "< 4D4F 04 00000003  NOTOK: the registry is made anew",
+            "< 4D4F 01 00000003 01  ASK position 1",
         ]
     );
 }

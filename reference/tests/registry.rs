@@ -16,6 +16,31 @@ fn started(nodes: u8) -> Ring {
     ring
 }
 
+/// The ring after an NCE in NOTOK, or in OK with listed pairs, a SETTING row and a running delay as far as there are units.
+fn plugged(nodes: u8, state: State) -> Ring {
+    let mut ring = started(nodes);
+    for position in open_positions(&ring).into_iter().filter(|_| state == State::Ok) {
+        let record = match position {
+            2 => event(NONE, 1, position),
+            _ => answer(&ring, position, 0x0100 + u16::from(position), &[[0x22, position]]),
+        };
+        ring.record(&record, &mut [0; MIN_ROOM]).expect("a reply is taken");
+    }
+    if state == State::Ok && nodes > 1 {
+        let record = answer(&ring, 1, 0x0101, &[[0x22, 1], [0x22, 0]]);
+        ring.record(&record, &mut [0; MIN_ROOM]).expect("an unasked announcement is taken");
+    }
+    assert!(nodes == 1 || ring.state() == state);
+    ring.record(&event(NCE, 0, nodes), &mut [0; MIN_ROOM]).expect("NCE is taken");
+    assert!(nodes == 1 || ring.state() == state);
+    ring
+}
+
+/// A ring as each of START, NCE in NOTOK and NCE in OK leaves it.
+fn scans(nodes: u8) -> [Ring; 3] {
+    [started(nodes), plugged(nodes, State::NotOk), plugged(nodes, State::Ok)]
+}
+
 fn open_positions(ring: &Ring) -> Vec<u8> {
     let open = |status| matches!(status, Status::Waiting | Status::Setting { .. });
     ring.rows().filter(|(_, row)| open(row.status())).map(|(position, _)| position).collect()
@@ -45,16 +70,17 @@ fn every_ring_gets_to_ok_within_the_bound() {
     for seed in 0..400 {
         let mut random = Random::new(seed);
         let nodes = random.range(1, 9) as u8;
-        let mut ring = started(nodes);
-        let mut taken = 0;
-        while ring.state() != State::Ok {
-            let open = open_positions(&ring);
-            let position = random.pick(&open);
-            let record = random_record(&mut random, &ring, position);
-            ring.record(&record, &mut [0; MIN_ROOM]).expect("a reply is taken");
-            taken += 1;
+        for mut ring in scans(nodes) {
+            let mut taken = 0;
+            while ring.open_questions() > 0 {
+                let open = open_positions(&ring);
+                let position = random.pick(&open);
+                let record = random_record(&mut random, &ring, position);
+                ring.record(&record, &mut [0; MIN_ROOM]).expect("a reply is taken");
+                taken += 1;
+            }
+            assert!(ring.state() == State::Ok && taken <= bound(nodes), "{taken} replies for {nodes} nodes");
         }
-        assert!(taken <= bound(nodes), "{taken} replies for {nodes} nodes");
     }
 }
 
@@ -62,10 +88,9 @@ fn every_ring_gets_to_ok_within_the_bound() {
 #[test]
 fn the_bound_is_reached() {
     let refused = [[0x22, 0x00]; MAX_PAIRS];
-    for nodes in 1..=8 {
-        let mut ring = started(nodes);
+    for (nodes, mut ring) in (1..=8).flat_map(|nodes| scans(nodes).map(|ring| (nodes, ring))) {
         let mut taken = 0;
-        while ring.state() != State::Ok {
+        while ring.open_questions() > 0 {
             let liar = ring.rows().find(|(_, row)| row.bad() < 2).map(|(position, _)| position);
             let open = open_positions(&ring);
             let position = open.iter().copied().find(|&position| Some(position) != liar).unwrap_or(open[0]);
@@ -76,7 +101,7 @@ fn the_bound_is_reached() {
             ring.record(&answer(&ring, position, address, &refused), &mut [0; MIN_ROOM]).expect("a reply is taken");
             taken += 1;
         }
-        assert_eq!(taken, bound(nodes), "{nodes} nodes");
+        assert_eq!((ring.state(), taken), (State::Ok, bound(nodes)), "{nodes} nodes");
     }
 }
 
@@ -137,6 +162,57 @@ fn pictures_hang_together_and_refusals_change_nothing() {
             check_invariants(&ring);
         }
     }
+}
+
+/// After each of many random records an NCE is tried: ASKs and the whole listing in OK, NOTOK and ASKs in NOTOK.
+#[test]
+fn a_re_plug_tells_the_listing_in_ok_alone() {
+    let mut told = [0; 3];
+    for seed in 0..60 {
+        let mut random = Random::new(seed + 2000);
+        let l = random.range(12, 45);
+        let mut ring = Ring::fresh(l as u32).expect("a good L");
+        for _ in 0..400 {
+            let _ = ring.record(&any_record(&mut random, &ring), &mut [0; MIN_ROOM]);
+            let nodes = random.range(1, 7) as u8;
+            let mut out = [0; MIN_ROOM];
+            let mut next = ring.clone();
+            let Ok(length) = next.record(&event(NCE, 0, nodes), &mut out) else {
+                assert_eq!(ring.state(), State::Off);
+                continue;
+            };
+            let head = |kind: u8| [&[0x4D, 0x4F, kind][..], &(ring.pass() + 1).to_be_bytes()].concat();
+            let mut wanted = Vec::new();
+            if ring.state() == State::NotOk {
+                wanted.extend(head(4));
+            }
+            for position in 1..nodes {
+                wanted.extend([head(1), vec![position]].concat());
+            }
+            if ring.state() == State::Ok {
+                for pairs in ring.listing().chunks((l - 1) / 2) {
+                    wanted.extend([head(6), vec![pairs.len() as u8]].concat());
+                    wanted.extend(pairs.iter().flat_map(|entry| [entry.block, entry.number]));
+                }
+                told[ring.listing().len().min(2)] += 1;
+            } else if nodes == 1 {
+                wanted.extend(head(3));
+            }
+            assert_eq!(out[..length], wanted);
+            let keeps_ok = ring.state() == State::Ok || nodes == 1;
+            assert_eq!(next.state(), if keeps_ok { State::Ok } else { State::NotOk });
+            let mut fresh = Ring::fresh(l as u32).expect("a good L");
+            fresh.pass = ring.pass();
+            fresh.record(&event(START, 0, nodes), &mut out).expect("START is taken");
+            assert!((next.pass(), next.nodes(), next.delay_runs()) == (fresh.pass(), nodes, false));
+            assert!(next.open_questions() == nodes - 1 && next.rows().eq(fresh.rows()));
+            check_invariants(&next);
+            if random.chance(10) {
+                ring = next;
+            }
+        }
+    }
+    assert!(told.iter().all(|&times| times > 300), "{told:?}");
 }
 
 fn any_record(random: &mut Random, ring: &Ring) -> Vec<u8> {

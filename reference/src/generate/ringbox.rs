@@ -64,10 +64,7 @@ impl Stage for Writer {
         self.script.go_on()?;
         match room {
             Some(room) => self.lend(room),
-            None if self.room < MIN_ROOM => {
-                let room = self.script.random.pick(&[MIN_ROOM, BENCH_ROOM, BENCH_ROOM]);
-                self.lend(room);
-            }
+            None if self.room < MIN_ROOM => self.lend(MIN_ROOM),
             None => {}
         }
         self.script.command_with_hex(">", record);

@@ -1,13 +1,14 @@
 //! Rings that are played: models of units answer, and scenes lead the ring into every corner.
 
 mod noise;
+mod replugs;
 mod scenes;
 mod steps;
 mod units;
 
 use super::{Random, BAD_SIZES};
 use crate::registry::{Pair, Ring, Status};
-use crate::sizes::{MAX_NODES, MAX_SIZE, MIN_SIZE};
+use crate::sizes::{BENCH_ROOM, MAX_NODES, MAX_SIZE, MIN_SIZE};
 use crate::wire::{self, event, SET};
 use units::{Taste, Unit};
 
@@ -18,6 +19,9 @@ pub trait Stage {
 
     /// Whether scenes may be long, up to thousands of records.
     const PATIENT: bool;
+
+    /// The most order room that the stage lends.
+    const MOST_ROOM: usize = BENCH_ROOM;
 
     /// The ring as it stands.
     fn ring(&self) -> &Ring;
@@ -67,7 +71,7 @@ pub struct Play<'a, S> {
     taste: Taste,
     habits: Habits,
     scene: usize,
-    /// L of the last fresh picture.
+    /// The last L of those that come in turn.
     size: usize,
     /// The last records.
     past: Vec<Vec<u8>>,

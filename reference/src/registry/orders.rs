@@ -52,19 +52,19 @@ impl<'a> Orders<'a> {
         self.head(if short { WAIT_SHORT } else { WAIT_LONG }, pass);
     }
 
-    /// INVALID for the pairs of `before` that are not in `after`, at most `size` in an order.
-    pub fn invalid(&mut self, pass: u32, size: usize, before: &[Pair], after: &[Pair]) {
-        self.difference(INVALID, pass, size, before, after);
+    /// INVALID for these pairs, at most `size` in an order.
+    pub fn invalid<'p>(&mut self, pass: u32, size: usize, pairs: impl IntoIterator<Item = &'p Pair>) {
+        self.pairs(INVALID, pass, size, pairs);
     }
 
-    /// NEW for the pairs of `after` that are not in `before`, at most `size` in an order.
-    pub fn new_pairs(&mut self, pass: u32, size: usize, before: &[Pair], after: &[Pair]) {
-        self.difference(NEW, pass, size, after, before);
+    /// NEW for these pairs, at most `size` in an order.
+    pub fn new_pairs<'p>(&mut self, pass: u32, size: usize, pairs: impl IntoIterator<Item = &'p Pair>) {
+        self.pairs(NEW, pass, size, pairs);
     }
 
-    fn difference(&mut self, kind: u8, pass: u32, size: usize, of: &[Pair], without: &[Pair]) {
+    fn pairs<'p>(&mut self, kind: u8, pass: u32, size: usize, pairs: impl IntoIterator<Item = &'p Pair>) {
         let mut count_at = 0;
-        for (index, pair) in of.iter().filter(|pair| !without.contains(pair)).enumerate() {
+        for (index, pair) in pairs.into_iter().enumerate() {
             if index % size == 0 {
                 self.head(kind, pass);
                 count_at = self.length;

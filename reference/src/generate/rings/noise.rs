@@ -3,13 +3,24 @@
 use super::{Play, Played, Stage};
 use crate::generate::Random;
 use crate::registry::{Pair, State};
-use crate::sizes::{BENCH_ROOM, MAX_NODES, MAX_PAIRS, MAX_UNITS, MIN_ROOM};
+use crate::sizes::{MAX_NODES, MAX_PAIRS, MAX_UNITS, MIN_ROOM};
 use crate::wire::{
     answer, event, ANSWER, ANSWER_HEAD, COUNT, DELAY, KIND, NCE, NONE, PASS, RECORD_MARK, SHUTDOWN, START, X,
 };
 
-const ROOMS: &[usize] =
-    &[0, 1, 255, 256, MIN_ROOM - 2, MIN_ROOM - 1, MIN_ROOM - 1, MIN_ROOM, MIN_ROOM + 1, BENCH_ROOM - 1, BENCH_ROOM];
+const ROOMS: &[usize] = &[
+    0,
+    511,
+    512,
+    MIN_ROOM / 2,
+    MIN_ROOM - 2,
+    MIN_ROOM - 1,
+    MIN_ROOM - 1,
+    MIN_ROOM,
+    MIN_ROOM,
+    MIN_ROOM + 1,
+    2 * MIN_ROOM,
+];
 const COUNTS: &[usize] = &[0, 1, MAX_PAIRS - 1, MAX_PAIRS, MAX_PAIRS + 1, MAX_PAIRS + 2, 2 * MAX_PAIRS, 255];
 const BAD_NODES: &[usize] = &[0, MAX_NODES + 1, MAX_NODES + 2, 127, 128, 255];
 
@@ -74,7 +85,7 @@ impl<S: Stage> Play<'_, S> {
 
     /// Order room near the edges.
     fn lent_room(&mut self) -> Played<S> {
-        let room = self.random.pick(ROOMS).min(BENCH_ROOM);
+        let room = self.random.pick(ROOMS).min(S::MOST_ROOM);
         let record = if self.random.chance(25) { self.damaged() } else { self.taken_record() };
         self.offer_with(&record, Some(room))
     }

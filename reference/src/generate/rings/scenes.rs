@@ -14,22 +14,26 @@ const OUT_OF_RANGE: &[u16] = &[0x0100, 0x0300, 0xFFFF, 0x0000];
 const SPARE: &[u8] = &[1, 2, 62, 63, 64, 64, 65, 100, 126, 127, 128, 191, 192, 193, 253, 254, 254, 254];
 
 impl<S: Stage> Play<'_, S> {
-    pub const SCENES: [fn(&mut Self) -> Played<S>; 16] = [
+    pub const SCENES: [fn(&mut Self) -> Played<S>; 20] = [
         Self::mixed,
         Self::silences,
         Self::mixed,
         Self::addresses,
+        Self::replugs,
         Self::quarrel,
         Self::full_block,
         Self::mixed,
         Self::passes,
         Self::stubborn,
+        Self::great_replugs,
         Self::full_ring,
         Self::quarrel,
         Self::packing,
         Self::silences,
         Self::full_block,
         Self::damage,
+        Self::quarrel,
+        Self::replugs,
         Self::passes,
     ];
 
@@ -55,7 +59,7 @@ impl<S: Stage> Play<'_, S> {
         }
         self.units[1].silent = 100;
         self.scan()?;
-        for round in 0..self.random.range(20, 28) {
+        for round in 0..self.random.range(22, 32) {
             self.reply_to_each()?;
             if round > 10 && self.random.chance(3) {
                 self.bad_address()?;
@@ -69,6 +73,9 @@ impl<S: Stage> Play<'_, S> {
         }
         for unit in &mut self.units {
             unit.silent /= 2;
+        }
+        if self.random.chance(40) {
+            self.plug()?;
         }
         self.steps(25)
     }
@@ -90,7 +97,7 @@ impl<S: Stage> Play<'_, S> {
     }
 
     /// One unit announces an address out of range.
-    fn bad_address(&mut self) -> Played<S> {
+    pub fn bad_address(&mut self) -> Played<S> {
         let (position, address) = (self.any_position(), self.random.pick(OUT_OF_RANGE));
         self.offer(&answer(self.pass(), position, address, &[]))
     }
@@ -111,6 +118,7 @@ impl<S: Stage> Play<'_, S> {
         for _ in 0..self.length(4, 14) {
             let steps = self.length(2, 15);
             self.steps(steps)?;
+            self.barred_unit()?;
             self.barred_unit()?;
             let (position, address) = (self.any_position(), self.random.pick(&pool));
             self.announce_address(position, address)?;
@@ -152,7 +160,7 @@ impl<S: Stage> Play<'_, S> {
     }
 
     /// A unit announces a pair that must be renumbered.
-    fn open_a_question(&mut self) -> Played<S> {
+    pub fn open_a_question(&mut self) -> Played<S> {
         let position = self.any_position();
         let number = self.random.pick(&[0, 255]);
         let pairs = &mut self.units[position as usize].pairs;
@@ -190,7 +198,12 @@ impl<S: Stage> Play<'_, S> {
         for _ in 0..self.length(8, 30) {
             self.beg(block)?;
         }
-        self.stage.look_closely()
+        self.stage.look_closely()?;
+        if self.random.chance(30) {
+            self.scan()?;
+            self.reply_to_all(30)?;
+        }
+        Ok(())
     }
 
     /// In a full block some unit gives numbers up, and another asks for more.
@@ -235,6 +248,10 @@ impl<S: Stage> Play<'_, S> {
         self.scan()?;
         let replies = self.length(60, 300);
         self.reply_to_all(replies)?;
+        if self.random.chance(40) {
+            self.scan()?;
+            self.reply_to_all(replies / 2)?;
+        }
         self.steps(25)
     }
 
@@ -360,7 +377,12 @@ impl<S: Stage> Play<'_, S> {
         }
         let first = self.random.pick(PASS_EDGES);
         if !self.stage.set_pass(first)? {
-            let passes = self.random.pick(&[3, 3, 10, 10, 10, 10, 10, 10, 10, 260, 520]);
+            let passes = match self.random.below(24) {
+                0 => 260,
+                1 => 520,
+                2..=4 => 3,
+                _ => 10,
+            };
             self.climb(passes)?;
         } else if first == u32::MAX {
             self.go_on()?;
@@ -372,7 +394,7 @@ impl<S: Stage> Play<'_, S> {
 }
 
 /// A pair of a full ring: all in few blocks, or one block for each index, or for each position with its numbers far apart.
-fn full_pair(layout: usize, position: usize, index: usize) -> Pair {
+pub fn full_pair(layout: usize, position: usize, index: usize) -> Pair {
     let place = (position - 1) * MAX_PAIRS + index;
     let (block, number) = match layout {
         0 => (0x22 + place / 256, place % 256),

@@ -87,21 +87,28 @@ impl<S: Stage> Play<'_, S> {
         }
     }
 
-    /// NCE, often with another ring size and with units at other positions, or SHUTDOWN.
+    /// NCE or SHUTDOWN.
     pub fn replug(&mut self) -> Played<S> {
         if self.random.chance(30) {
             return self.event(SHUTDOWN, 0, 0);
         }
-        let nodes = match self.random.below(5) {
-            0 => self.nodes().max(1),
-            1 => self.nodes().saturating_sub(1).max(1),
-            2 => (self.nodes() + 1).min(MAX_NODES),
-            3 => self.habits.nodes,
+        self.plug()
+    }
+
+    /// NCE, often with another ring size and with units at other positions, the one at position 0 among them or not.
+    pub fn plug(&mut self) -> Played<S> {
+        let nodes = match self.random.below(16) {
+            0..=2 => self.nodes().max(1),
+            3..=5 => self.nodes().saturating_sub(1).max(1),
+            6..=8 => (self.nodes() + 1).min(MAX_NODES),
+            9..=11 => self.habits.nodes,
+            12 => 1,
             _ if self.habits.nodes > 12 => self.random.range(1, MAX_NODES),
             _ => self.ring_size(),
         };
         if self.random.chance(50) {
-            self.random.shuffle(&mut self.units[..nodes.max(2)]);
+            let first = self.random.below(2);
+            self.random.shuffle(&mut self.units[first..nodes.max(2)]);
         }
         self.event(NCE, 0, nodes as u8)
     }

@@ -15,7 +15,7 @@ use boxes::{ProvedRing, ProvedTelegrams, ReferenceRing, ReferenceTelegrams, Ring
 use lathepetal::{FlatListing, JoinState, Picture};
 use reference::player::fill;
 use reference::registry::{Entry, Ring};
-use reference::sizes::{BENCH_ROOM, MAX_LISTED, MAX_NODES, MAX_PAIRS, MAX_PAYLOAD, MAX_SIZE, MAX_TELEGRAM, MIN_SIZE, TELEGRAM_HEAD};
+use reference::sizes::{BENCH_ROOM, MAX_LISTED, MAX_NODES, MAX_PAIRS, MAX_PAYLOAD, MAX_SIZE, MAX_TELEGRAM, MAX_UNITS, MIN_SIZE, TELEGRAM_HEAD};
 use reference::telegrams::Joining;
 use workloads::Records;
 
@@ -303,14 +303,17 @@ fn main() -> ExitCode {
     bench.records(&format!("ANSWER of {MAX_PAIRS} pairs, {MAX_LISTED} listed"), &answers[1]);
     bench.records(&format!("ANSWER of {MAX_PAIRS} bad pairs, none free, and back"), &answers[2]);
     bench.records(&format!("NONE, N = {MAX_NODES}"), &workloads::silences());
-    bench.records(&format!("NCE, N = {MAX_NODES}"), &workloads::replugs());
+    bench.records(&format!("NCE in NOTOK, N = {MAX_NODES}"), &workloads::replugs_in_notok());
+    let change = workloads::replug_in_ok();
+    bench.records(&format!("NCE in OK, {MAX_LISTED} listed, and a copy"), &change);
+    bench.records(&format!("NCE in OK and {MAX_UNITS} ANSWERs, each record"), &workloads::rescans());
     bench.records(&format!("refused records, N = {MAX_NODES}"), &workloads::refusals());
     listings_and_look_ups(&mut bench);
     let payload = fill(MAX_PAYLOAD, 0);
     bench.telegrams(MIN_SIZE, &payload);
     bench.telegrams(MAX_SIZE, &payload);
     let [_, full, bad] = answers;
-    memory(&[workloads::days(1), full, bad, workloads::conflicts()]);
+    memory(&[workloads::days(1), full, bad, change, workloads::conflicts()]);
 
     if bench.agrees {
         println!("\nBoth gave the same answers.");

@@ -179,11 +179,31 @@ pub fn silences() -> Records {
     Records { before, measured: maker.records }
 }
 
-/// The greatest ring is plugged anew, again and again.
-pub fn replugs() -> Records {
-    let mut maker = full_ring();
+/// The greatest ring is plugged anew, again and again, and no unit answers: NCEs in NOTOK.
+pub fn replugs_in_notok() -> Records {
+    let mut maker = Maker::new();
+    maker.start(NODES);
     let before = maker.before();
     (0..200).for_each(|_| maker.replug(NODES));
+    Records { before, measured: maker.records }
+}
+
+/// The full ring is plugged anew once: an NCE in OK that tells all its pairs.
+pub fn replug_in_ok() -> Records {
+    let mut maker = full_ring();
+    let before = maker.before();
+    maker.replug(NODES);
+    Records { before, measured: maker.records }
+}
+
+/// The full ring is plugged anew, and all units answer as before.
+pub fn rescans() -> Records {
+    let mut maker = full_ring();
+    let before = maker.before();
+    for _ in 0..3 {
+        maker.replug(NODES);
+        (1..=LAST).for_each(|position| maker.answer(position, &full_row(position)));
+    }
     Records { before, measured: maker.records }
 }
 

@@ -15,6 +15,9 @@ const WRITES_BEHIND_THE_ORDERS: u8 = 3;
 const CHANGES_BESIDE_A_REFUSAL: u8 = 4;
 const LISTS_BEHIND_THE_COUNT: u8 = 5;
 const PASSES_THE_LAST_PASS: u8 = 6;
+const LEAVES_OK_AT_A_RING_CHANGE: u8 = 7;
+const FORGETS_A_PAIR_AT_A_RING_CHANGE: u8 = 8;
+const TELLS_ROW_BY_ROW_AT_A_RING_CHANGE: u8 = 9;
 
 /// The reference with one fault.
 #[derive(Clone, PartialEq)]
@@ -27,8 +30,10 @@ impl<const FAULT: u8> RingBox for Faulty<FAULT> {
     }
 
     fn record(&mut self, bytes: &[u8], out: &mut [u8]) -> (u8, usize) {
+        let met = self.0.show();
         let (number, length) = self.0.record(bytes, out);
         let pass = self.0.show().pass;
+        let in_ok = number == lathepetal::DONE && met.state == lathepetal::OK && bytes[wire::KIND] == wire::NCE;
         match FAULT {
             WAITS_SHORT_FOR_EVER if wire::orders(&out[..length]).last().is_some_and(|order| order[wire::KIND] == wire::WAIT_LONG) => {
                 out[length - wire::ORDER_HEAD + wire::KIND] = wire::WAIT_SHORT;
@@ -36,6 +41,13 @@ impl<const FAULT: u8> RingBox for Faulty<FAULT> {
             WRITES_BEHIND_THE_ORDERS if length > 40 && out.len() > length => out[length] ^= 1,
             CHANGES_BESIDE_A_REFUSAL if number == refusal::POSITION_IGNORED => self.0.set_pass(pass + 1),
             PASSES_THE_LAST_PASS if number == refusal::NO_PASS_LEFT => return (0, 0),
+            LEAVES_OK_AT_A_RING_CHANGE if in_ok => return (0, length + wire::ORDER_HEAD),
+            FORGETS_A_PAIR_AT_A_RING_CHANGE if in_ok && wire::orders(&out[..length]).any(|order| order[wire::KIND] == wire::INVALID) => {
+                return (0, length - 2);
+            }
+            TELLS_ROW_BY_ROW_AT_A_RING_CHANGE if in_ok && met.rows().filter(|(_, row)| row.count > 0).count() > 1 => {
+                return (0, length + wire::ORDER_HEAD + 1);
+            }
             _ => {}
         }
         (number, length)
@@ -176,6 +188,13 @@ fn the_last_pass() {
     let found = ring_fault::<PASSES_THE_LAST_PASS>();
     is_short(Ringbox::new(), &found, ">", 2);
     assert!(found.script.contains("no script can show"));
+}
+
+#[test]
+fn a_ring_change() {
+    is_short(Ringbox::new(), &ring_fault::<LEAVES_OK_AT_A_RING_CHANGE>(), ">", 2);
+    is_short(Ringbox::new(), &ring_fault::<FORGETS_A_PAIR_AT_A_RING_CHANGE>(), ">", 3);
+    is_short(Ringbox::new(), &ring_fault::<TELLS_ROW_BY_ROW_AT_A_RING_CHANGE>(), ">", 4);
 }
 
 #[test]

@@ -44,7 +44,8 @@ fn main() -> ExitCode {
         return different(seed, "telegrams", transport.telegrams, found);
     }
     report(&registry, &transport);
-    println!("differential: seed {seed}: {records} records, {telegrams} telegrams, no difference");
+    let changes = registry.changes.all;
+    println!("differential: seed {seed}: {records} records, {changes} of them NCEs in OK, {telegrams} telegrams, no difference");
     ExitCode::SUCCESS
 }
 
@@ -82,6 +83,9 @@ fn report(registry: &scenes::Tally, transport: &streams::Tally) {
     eprintln!("records by number:{}", numbers(&registry.numbers, 0, refusal::NO_PASS_LEFT));
     eprintln!("orders:{}", names(&kinds, &registry.orders[wire::ASK as usize..]));
     eprintln!("rows seen:{}", names(&STATUSES, &registry.rows));
+    let changes = &registry.changes;
+    let told = [changes.all, changes.telling, changes.asking, changes.delayed, changes.fewer];
+    eprintln!("NCEs in OK:{}", names(&["taken", "telling pairs", "with a question open", "while a delay ran", "to fewer nodes"], &told));
     eprintln!("telegram refusals:{}", numbers(&transport.numbers, refusal::ILLEGAL_SIZE, refusal::OUT_OF_SEQUENCE));
     eprintln!("{} messages joined", transport.messages);
 }

@@ -4,13 +4,15 @@ use crate::boxes::{ReferenceRing, RingBox, Shown};
 use crate::minimize::{minimize, Simpler};
 use crate::script::{differ, differ_at, must, must_at, Difference, Found};
 use reference::registry::Ring;
-use reference::sizes::{BENCH_ROOM, MAX_NODES};
+use reference::sizes::{BENCH_ROOM, MAX_NODES, MIN_ROOM};
 use reference::wire::{event, ADDRESS, ANSWER, ANSWER_HEAD, COUNT, DELAY, KIND, NCE, NONE, PASS, RECORD_HEAD, RECORD_MARK, START, X};
 
 const GUARD: usize = 64;
 /// Lent room begins at this many places in turn, so that it has every alignment.
 const STARTS: usize = 16;
-const AREA: usize = STARTS + BENCH_ROOM + 2 * GUARD;
+/// The most order room that is lent; a script can lend less.
+pub const MOST_ROOM: usize = 2 * MIN_ROOM;
+const AREA: usize = STARTS + MOST_ROOM + 2 * GUARD;
 
 /// One step of a session.
 #[derive(Clone)]
@@ -311,7 +313,10 @@ impl Session {
                 Step::Record { bytes, room, .. } => {
                     if *room != lent {
                         lent = *room;
-                        text += &format!("room {room}\n");
+                        text += &match lent > BENCH_ROOM {
+                            true => format!("# from here on the room is {room}, which no script can lend\nroom {BENCH_ROOM}\n"),
+                            false => format!("room {room}\n"),
+                        };
                     }
                     let bytes = player.as_ref().map_or(bytes.clone(), |player| player.bytes_of(step));
                     text += &format!("> {}\n", hex_of_record(&bytes));

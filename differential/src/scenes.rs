@@ -4,11 +4,11 @@ use reference::generate::rings::{pair_near, Play, Stage};
 use reference::generate::Random;
 use reference::refusal;
 use reference::registry::Ring;
-use reference::sizes::{BENCH_ROOM, MIN_ROOM, MIN_SIZE};
-use reference::wire::{self, KIND, ORDER_KINDS};
+use reference::sizes::{MIN_ROOM, MIN_SIZE};
+use reference::wire::{self, INVALID, KIND, NCE, ORDER_KINDS, X};
 
-use crate::boxes::{RingBox, STATUSES};
-use crate::ring::{Player, Session, Step};
+use crate::boxes::{RingBox, Shown, STATUSES};
+use crate::ring::{Player, Session, Step, MOST_ROOM};
 use crate::script::{Found, Stop};
 
 /// What was played, for the end of the run.
@@ -24,6 +24,32 @@ pub struct Tally {
     pub rows: [usize; STATUSES.len()],
     /// The most pairs listed at once.
     pub listed: usize,
+    /// NCEs taken in OK.
+    pub changes: Changes,
+}
+
+/// NCEs taken in OK: all, those that told pairs, and those that came while a question was open, while a delay ran, and to fewer nodes.
+#[derive(Default)]
+pub struct Changes {
+    pub all: usize,
+    pub telling: usize,
+    pub asking: usize,
+    pub delayed: usize,
+    pub fewer: usize,
+}
+
+impl Changes {
+    /// Counts a taken record by the picture that it met.
+    fn count(&mut self, met: &Shown, record: &[u8], orders: &[u8]) {
+        if met.state != lathepetal::OK || record[KIND] != NCE {
+            return;
+        }
+        self.all += 1;
+        self.telling += usize::from(wire::orders(orders).any(|order| order[KIND] == INVALID));
+        self.asking += usize::from(met.open > 0);
+        self.delayed += usize::from(met.delay);
+        self.fewer += usize::from(record[X] < met.nodes);
+    }
 }
 
 /// Plays sessions until `records` are played: the first difference, if there is one.
@@ -64,12 +90,12 @@ impl<P: RingBox, F: FnMut(usize)> Both<'_, P, F> {
             0..=59 => MIN_ROOM,
             60..=79 => self.random.range(MIN_ROOM, MIN_ROOM + 128),
             80..=89 => MIN_ROOM + 1,
-            90..=93 => self.random.range(MIN_ROOM, BENCH_ROOM),
-            94..=96 => BENCH_ROOM,
+            90..=93 => self.random.range(MIN_ROOM, MOST_ROOM),
+            94..=96 => MOST_ROOM,
             97 => MIN_ROOM - 1,
             _ => self.random.pick(&[0, 1, 7, 255, 256, MIN_ROOM - 2, MIN_ROOM - 1, MIN_ROOM - 1]),
         };
-        room.min(BENCH_ROOM)
+        room.min(MOST_ROOM)
     }
 
     fn look_up(&mut self, pairs: usize, blocks: &[u8]) -> Result<(), Stop> {
@@ -94,6 +120,7 @@ impl<P: RingBox, F: FnMut(usize)> Stage for Both<'_, P, F> {
     type Stop = Stop;
 
     const PATIENT: bool = true;
+    const MOST_ROOM: usize = MOST_ROOM;
 
     fn ring(&self) -> &Ring {
         self.player.ring()
@@ -116,8 +143,12 @@ impl<P: RingBox, F: FnMut(usize)> Stage for Both<'_, P, F> {
         }
         let room = room.unwrap_or_else(|| self.room());
         let step = Step::record(record, self.ring().pass(), room, self.random.word() as usize);
+        let met = self.player.shown().clone();
         let (number, orders) = self.play(step)?;
         self.count(number, &orders);
+        if number == lathepetal::DONE {
+            self.tally.changes.count(&met, record, &orders);
+        }
         Ok(orders)
     }
 

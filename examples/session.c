@@ -1,5 +1,6 @@
 /* One bench session, whole: a ring of three is started, a clashing instance number is renumbered, and the ring gets to OK. Then the
- * listing, two look-ups, a record that is refused, and a message cut into telegrams and joined again.
+ * listing, two look-ups, a record that is refused, a re-plug in which the ring stays OK, and a message cut into telegrams and joined
+ * again.
  * Ends with status 1 where anything is not as expected. */
 #include <stdio.h>
 #include <stdlib.h>
@@ -114,6 +115,11 @@ static void ring(void)
     static const uint8_t RENUMBERED[] = {0x4D, 0x45, 4, 0, 0, 0, 1, 2, 0x01, 0x02, 1, 0x22, 0x02};
     static const uint8_t RING_OK[] = {0x4D, 0x4F, 3, 0, 0, 0, 1};
     static const uint8_t OLD_NONE[] = {0x4D, 0x45, 5, 0, 0, 0, 0, 1};
+    static const uint8_t CHANGE_3[] = {0x4D, 0x45, 2, 0, 0, 0, 0, 3};
+    static const uint8_t ASK_AND_INVALID[] = {0x4D, 0x4F, 1, 0, 0, 0, 2, 1, 0x4D, 0x4F, 1, 0, 0, 0, 2, 2,
+                                              0x4D, 0x4F, 6, 0, 0, 0, 2, 2, 0x22, 0x01, 0x22, 0x02};
+    static const uint8_t FIRST_AGAIN[] = {0x4D, 0x45, 4, 0, 0, 0, 2, 1, 0x01, 0x01, 1, 0x22, 0x01};
+    static const uint8_t NEW_1[] = {0x4D, 0x4F, 5, 0, 0, 0, 2, 1, 0x22, 0x01};
     static const struct lathepetal_look_up_outcome AT_2 = {LATHEPETAL_DONE, 2, 0x0102};
     static const struct lathepetal_look_up_outcome NOWHERE = {LATHEPETAL_NOT_LISTED, 0, 0};
 
@@ -137,6 +143,11 @@ static void ring(void)
     look_up(picture, 0x22, 0x02, AT_2);
     look_up(picture, 0x22, 0x03, NOWHERE);
     play(&picture, OLD_NONE, sizeof OLD_NONE, LATHEPETAL_WRONG_PASS, NULL, 0);
+
+    play(&picture, CHANGE_3, sizeof CHANGE_3, LATHEPETAL_DONE, ASK_AND_INVALID, sizeof ASK_AND_INVALID);
+    play(&picture, FIRST_AGAIN, sizeof FIRST_AGAIN, LATHEPETAL_DONE, NEW_1, sizeof NEW_1);
+    expect(picture.state == LATHEPETAL_OK, "the state after a re-plug");
+    look_up(picture, 0x22, 0x02, NOWHERE);
 }
 
 static void telegrams(void)

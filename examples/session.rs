@@ -1,5 +1,6 @@
 // One bench session, whole: a ring of three is started, a clashing instance number is renumbered, and the ring gets to OK. Then the
-// listing, two look-ups, a record that is refused, and a message cut into telegrams and joined again.
+// listing, two look-ups, a record that is refused, a re-plug in which the ring stays OK, and a message cut into telegrams and joined
+// again.
 // Ends with status 1 where anything is not as expected.
 
 // The library as include/lathepetal.h declares it; what a caller keeps to stands there.
@@ -107,6 +108,13 @@ fn ring() {
     const RENUMBERED: &[u8] = &[0x4D, 0x45, 4, 0, 0, 0, 1, 2, 0x01, 0x02, 1, 0x22, 0x02];
     const RING_OK: &[u8] = &[0x4D, 0x4F, 3, 0, 0, 0, 1];
     const OLD_NONE: &[u8] = &[0x4D, 0x45, 5, 0, 0, 0, 0, 1];
+    const CHANGE_3: &[u8] = &[0x4D, 0x45, 2, 0, 0, 0, 0, 3];
+    const ASK_1: &[u8] = &[0x4D, 0x4F, 1, 0, 0, 0, 2, 1];
+    const ASK_2: &[u8] = &[0x4D, 0x4F, 1, 0, 0, 0, 2, 2];
+    const INVALID_BOTH: &[u8] = &[0x4D, 0x4F, 6, 0, 0, 0, 2, 2, 0x22, 0x01, 0x22, 0x02];
+    const FIRST_AGAIN: &[u8] = &[0x4D, 0x45, 4, 0, 0, 0, 2, 1, 0x01, 0x01, 1, 0x22, 0x01];
+    const NEW_1: &[u8] = &[0x4D, 0x4F, 5, 0, 0, 0, 2, 1, 0x22, 0x01];
+    const NOWHERE: lathepetal::LookUpOutcome = lathepetal::LookUpOutcome { number: lathepetal::NOT_LISTED, position: 0, address: 0 };
 
     let made = lathepetal::fresh(L);
     expect(made.number == lathepetal::DONE, "the number of a fresh picture");
@@ -128,8 +136,13 @@ fn ring() {
     }
 
     look_up(picture, 0x22, 0x02, lathepetal::LookUpOutcome { number: lathepetal::DONE, position: 2, address: 0x0102 });
-    look_up(picture, 0x22, 0x03, lathepetal::LookUpOutcome { number: lathepetal::NOT_LISTED, position: 0, address: 0 });
-    play(picture, OLD_NONE, lathepetal::WRONG_PASS, &[]);
+    look_up(picture, 0x22, 0x03, NOWHERE);
+    let picture = play(picture, OLD_NONE, lathepetal::WRONG_PASS, &[]);
+
+    let picture = play(picture, CHANGE_3, lathepetal::DONE, &[ASK_1, ASK_2, INVALID_BOTH].concat());
+    let picture = play(picture, FIRST_AGAIN, lathepetal::DONE, NEW_1);
+    expect(picture.state == lathepetal::OK, "the state after a re-plug");
+    look_up(picture, 0x22, 0x02, NOWHERE);
 }
 
 fn telegrams() {

@@ -5,7 +5,7 @@ use mathlib.Core.List.{List, []}
 use Rattle.laws.specs.Lists.{collect}
 use Rattle.rules.specs.Picture.{Pair, Row, Picture, withRows, pairsIn, Seat, others, put}
 use Rattle.rules.specs.Renumber.{Judged, goods, Renumbering, finished, freeNumber, renumber, placeOf, triesOf}
-use Rattle.rules.specs.Step.{Change, Response, setOrder, Verdict, barred, outside, duplicate, changed, fine, verdict, ignored, answer, judgedFor, renumberingFor, listedRow}
+use Rattle.rules.specs.Step.{rowsSeparately, Change, Response, setOrder, Verdict, barred, outside, duplicate, changed, fine, verdict, ignored, answer, judgedFor, renumberingFor, listedRow}
 use Rattle.wire_pairs.specs.View.{pairsOf}
 use Rattle.row_entry.specs.View.{rowOf}
 use Rattle.row_renumber.specs.Marks.{renumberingOf}
@@ -15,7 +15,7 @@ use Rattle.ring_answer.specs.declared.hear.Kept.{Kept}
 
 -- the row in the seat becomes r, and n is sent to position x at address a
 abbrev pub replyChange : Seat → (x a : ℕ) → Row → Renumbering → Picture → Change
-replyChange s x a r n p = record { picture = withRows (put s r) p; first = []; set = setOrder x a n }
+replyChange s x a r n p = record { picture = withRows (put s r) p; first = []; packing = rowsSeparately; set = setOrder x a n }
 
 -- the rules' renumbering, from judged pairs
 abbrev pub renumberingBy : Seat → List Pair → List Judged → Renumbering

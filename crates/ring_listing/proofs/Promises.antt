@@ -1,15 +1,17 @@
 -- A flat listing read place by place.
 use Prim.Native.Nat.{ℕ, zero, suc, _+_, _≤_, _<_}
 use mathlib.Core.Path.{_≡_, refl, sym, _∙_, ap}
-use mathlib.Core.List.{List, [], _∷_, map}
+use mathlib.Core.List.{List, [], _∷_, _++_, map}
 use native.Mathlib.Nat.{not-suc-le-zero, le-of-suc-le-suc, add-zero}
 use native.Mathlib.Omega.{arith}
 use lib.ListN.{length, length-map, getD, drop, replicate, length-replicate, List·getD-append}
 use Rattle.laws.specs.Buffers.{sets-start}
 use Rattle.laws.specs.Lists.{upFrom}
+use Rattle.laws.specs.Views.{firsts}
 use Rattle.rules.specs.House.{maxEntries}
+use Rattle.rules.specs.Picture.{Pair}
 use Rattle.rules.specs.Listing.{Entry, entry}
-use Rattle.wire_pairs.specs.View.{pairOf}
+use Rattle.wire_pairs.specs.View.{pairOf, zipPairs, pairsFrom}
 use Rattle.ring_listing.specs.View.{filled, flatOf, entryAt, entriesIn}
 use Rattle.ring_listing.specs.Promises.{Promises}
 
@@ -27,12 +29,22 @@ all-read {A} g d k (x ∷ xs) h =
     let rest = all-read g d (suc k) xs (λ i l. let s : suc k + i ≡ k + suc i = omega arith in ap g s ∙ h (suc i) (omega arith)) in
     λ t. e t ∷ rest t
 
+-- blocks and numbers side by side, whatever stands behind them
+side-by-side : (es : List Entry) (bs ns : List ℕ)
+    → pairsFrom (length es) (map (λ (e : Entry). e .pair .block) es ++ bs) (map (λ (e : Entry). e .pair .number) es ++ ns) ≡ map (λ (e : Entry). e .pair) es
+unfolding pairsFrom firsts zipPairs pairOf
+side-by-side [] bs ns = refl
+side-by-side (e ∷ es) bs ns = ap (λ (l : List Pair). e .pair ∷ l) (side-by-side es bs ns)
+
 module _ (es : List Entry) (h : length es ≤ maxEntries) where
-  filled-at : (f : Entry → ℕ) (i : ℕ) (d : Entry) → i < length es → getD (filled (map f es)) i 0 ≡ f (getD es i d)
+  filled-start : (f : Entry → ℕ) → filled (map f es) ≡ map f es ++ drop (length (map f es)) (replicate maxEntries 0)
   unfolding filled
+  filled-start f = sets-start (replicate maxEntries 0) (map f es) (omega (arith, length-map es f, length-replicate {A = ℕ} maxEntries 0))
+
+  filled-at : (f : Entry → ℕ) (i : ℕ) (d : Entry) → i < length es → getD (filled (map f es)) i 0 ≡ f (getD es i d)
   filled-at f i d l =
       let m = length-map es f in
-      ap (λ (ns : List ℕ). getD ns i 0) (sets-start (replicate maxEntries 0) (map f es) (omega (arith, length-replicate {A = ℕ} maxEntries 0)))
+      ap (λ (ns : List ℕ). getD ns i 0) (filled-start f)
       ∙ List·getD-append (map f es) (drop (length (map f es)) (replicate maxEntries 0)) 0 i (omega arith) ∙ map-at f es i d l
 
   none : Entry
@@ -51,5 +63,12 @@ holds : (es : List Entry) → length es ≤ maxEntries → entriesIn (flatOf es)
 unfolding entriesIn flatOf
 holds es h = all-read (entryAt (flatOf es)) (none es h) 0 es (read es h)
 
+-- its blocks and numbers side by side are the listed pairs, in their order
+pairs : (es : List Entry) → length es ≤ maxEntries → pairsFrom (flatOf es .count) (flatOf es .blocks) (flatOf es .numbers) ≡ map (λ (e : Entry). e .pair) es
+unfolding flatOf
+pairs es h =
+    (λ t. pairsFrom (length es) (filled-start es h (λ (e : Entry). e .pair .block) t) (filled-start es h (λ (e : Entry). e .pair .number) t))
+    ∙ side-by-side es _ _
+
 pub promises : Promises
-promises = record { holds = holds }
+promises = record { holds = holds; pairs = pairs }

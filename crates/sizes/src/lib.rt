@@ -21,7 +21,7 @@ pub const MAX_PAIRS: usize = 16;
 pub const MAX_LISTED: usize = MAX_UNITS * MAX_PAIRS;
 
 // The least room that orders are written to.
-pub const MIN_ROOM: usize = 512;
+pub const MIN_ROOM: usize = 8192;
 
 // The longest message.
 pub const MAX_PAYLOAD: usize = 65535;

@@ -31,7 +31,7 @@ wrong-size : refusalOf Picture 10 ≡ codes "! 10  L is not 12 to 45\n"
 unfolding refusalOf tableOf wordsBeside ofPicture filledFrom valueOf decimalOf widthOf placesBy
 wrong-size = refl
 
-little-room : refusalOf Record 1 ≡ codes "! 1  order room below 512 bytes\n"
+little-room : refusalOf Record 1 ≡ codes "! 1  order room below 8192 bytes\n"
 unfolding refusalOf tableOf wordsBeside ofRecord filledFrom valueOf decimalOf widthOf placesBy
 little-room = refl
 

@@ -208,14 +208,14 @@ fn write_part(
 }
 
 // NEW or INVALID: the first `count` pairs of two slices, in their order, as many orders as L asks for; none for no pairs.
-pub fn write_deltas(
+pub fn write_deltas<'a>(
     out: &mut [u8],
     at: usize,
     pass: u32,
     delta: Delta,
     size: u8,
-    blocks: &[u8],
-    numbers: &[u8],
+    blocks: &'a [u8],
+    numbers: &'a [u8],
     count: usize,
 ) -> usize
     requires { ⌜ (3 ≤ size)

@@ -84,7 +84,7 @@ impl Simpler for Step {
     }
 }
 
-/// A scan of a smaller ring; an ANSWER with the unit's own address, or without one of its pairs.
+/// A scan of a smaller ring; an ANSWER with the unit's own address, with one that is bad for any unit, or without one of its pairs.
 fn simpler_records(bytes: &[u8]) -> Vec<Vec<u8>> {
     if let Some(nodes) = nodes(bytes) {
         let smaller = [nodes / 2, nodes.saturating_sub(1)].into_iter().filter(|&nodes| nodes > 0);
@@ -95,8 +95,12 @@ fn simpler_records(bytes: &[u8]) -> Vec<Vec<u8>> {
     }
     let mut records = Vec::new();
     let own = (0x0100 + u16::from(bytes[X])).to_be_bytes();
+    let bad = [0, 0];
     if bytes[ADDRESS] != own {
         records.push([&bytes[..ADDRESS.start], &own, &bytes[ADDRESS.end..]].concat());
+        if bytes[ADDRESS] != bad {
+            records.push([&bytes[..ADDRESS.start], &bad, &bytes[ADDRESS.end..]].concat());
+        }
     }
     for at in (ANSWER_HEAD..bytes.len()).step_by(2) {
         let mut fewer = bytes.to_vec();

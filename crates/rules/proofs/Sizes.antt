@@ -12,7 +12,7 @@ use Rattle.laws.specs.Lists.{any, select, collect}
 use Rattle.laws.specs.Bools.{clash, decide, and-none, or-cases, cond-true, cond-false, or-true-left, or-true-right}
 use Rattle.laws.specs.Alls.{All, all-nil, all-cons, all-head, all-tail, all-map, all-seat, all-out, Pairwise, pairwise-head, pairwise-tail, pairwise-out, any-none}
 use Rattle.laws.specs.Sums.{total, total-append}
-use Rattle.rules.specs.House.{maxNodes, maxUnits, maxPairs, maxEntries, minTold, maxSilences}
+use Rattle.rules.specs.House.{minSize, maxNodes, maxUnits, maxPairs, maxEntries, maxSilences}
 use Rattle.rules.specs.Picture.{isNotOk, isOk, Pair, samePair, holds, Status, WAITING, SETTING, LISTED, SILENT, IGNORED, Row, Picture, withStatus, withRows, withState}
 use Rattle.rules.specs.Picture.{Kept, nothing, kept, keptBy, keptIn, pairsOf, pairsIn, hasAddress, keeps, isOpen, isOpenStatus, isSilent, isSilentStatus, newRow, Seat, seatAt, others, put}
 use Rattle.rules.specs.Listing.{entriesOf, entriesFrom, listing, listedPairs}
@@ -84,7 +84,10 @@ packed-bytes (suc most) cap (a ∷ ps) =
     let g : length (take cap (a ∷ ps)) ≡ min cap (length (a ∷ ps)) = length-take cap (a ∷ ps) in
     omega arith
 
--- no more orders than there may be, and all but the last are full
+-- no more orders than there may be, and all but the last are full: "at most (L−1)/2 rounded down per order", so many at least
+abbrev minTold : ℕ
+minTold = (minSize - 1) / 2
+
 packed-few : (most cap : ℕ) (ps : List Pair) → length (packed most cap ps) ≤ most
 unfolding packed
 packed-few zero cap ps = omega arith

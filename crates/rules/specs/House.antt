@@ -1,5 +1,5 @@
 -- The sizes and limits of paper 01, each by a name. Those marked (house) there are the network owner's to choose.
-use Prim.Native.Nat.{ℕ, _-_, _*_, _/_}
+use Prim.Native.Nat.{ℕ, _-_, _*_}
 
 -- "a payload size L of 12 to 45 (house)"
 abbrev pub minSize : ℕ
@@ -23,10 +23,6 @@ maxPairs = 16
 -- "the whole listing of up to 1,008 block instances"
 abbrev pub maxEntries : ℕ
 maxEntries = maxUnits * maxPairs
-
--- "at most (L−1)/2 rounded down per order": so many at least
-abbrev pub minTold : ℕ
-minTold = (minSize - 1) / 2
 
 -- "room below 8,192 bytes" is refused (ticket 1)
 abbrev pub minRoom : ℕ

@@ -45,21 +45,21 @@ unfolding written concluded pictureOf ended withDelay settled withState
 written-taken p c = refl
 
 module _ {came : RegistryImage} {r : Recorded} {b m d : List ℕ} {at : ℕ} (p : Picture) (c : Change) where
-  pub does : Wrote b 0 (encodeAll (c .picture .pass) (c .first ++ told p (c .picture) ++ c .set)) at m → Ends (c .picture) m at r d
+  pub does : Wrote b 0 (encodeAll (c .picture .pass) (c .first ++ told (c .packing) p (c .picture) ++ c .set)) at m → Ends (c .picture) m at r d
       → (Marks came → Marks (r .picture)) → Does came (concluded p (change c)) b r d
   unfolding ordersOf
   does w e k =
-      let x = wrote-orders (c .picture .pass) (c .first ++ told p (c .picture) ++ c .set) (endOrders (c .picture)) w (record { buffer = e .buffer; place = refl }) in
+      let x = wrote-orders (c .picture .pass) (c .first ++ told (c .packing) p (c .picture) ++ c .set) (endOrders (c .picture)) w (record { buffer = e .buffer; place = refl }) in
       takes p c (e .picture) (e .number) (e .length ∙ x .place ∙ omega arith) (x .buffer) k
 
 -- An event whose change is c: the orders in front of the ending are fs, and the picture that goes to the ending is q.
-module _ (p : Picture) (c : Change) {o : Outcome} (e : o ≡ concluded p (change c)) {fs : List Order} (f : c .first ++ told p (c .picture) ++ c .set ≡ fs)
+module _ (p : Picture) (c : Change) {o : Outcome} (e : o ≡ concluded p (change c)) {fs : List Order} (f : c .first ++ told (c .packing) p (c .picture) ++ c .set ≡ fs)
     {q : Picture} (g : q ≡ c .picture) (b : List ℕ) where
   whole : length (written o) ≡ length (encodeAll (q .pass) fs) + length (encodeAll (q .pass) (endOrders q))
   unfolding ordersOf
   whole =
       ap (λ (x : Outcome). length (written x)) e ∙ ap length (written-taken p c)
-      ∙ orders-length (c .picture .pass) (c .first ++ told p (c .picture) ++ c .set) (endOrders (c .picture))
+      ∙ orders-length (c .picture .pass) (c .first ++ told (c .packing) p (c .picture) ++ c .set) (endOrders (c .picture))
       ∙ (λ i. length (encodeAll (sym g i .pass) (f i)) + length (encodeAll (sym g i .pass) (endOrders (sym g i))))
 
   pub front-room : length (written o) ≤ length b → length (encodeAll (q .pass) fs) ≤ length b

@@ -2,6 +2,7 @@
 pub mod Endings
 pub mod Doing
 pub mod Scanning
+pub mod Rescanning
 pub mod Telling
 pub mod Places
 pub mod Replying

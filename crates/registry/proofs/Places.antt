@@ -10,7 +10,7 @@ use Rattle.rules.specs.House.{maxUnits}
 use Rattle.rules.specs.Picture.{Row, noRow, withRows, rowAt, seatAt, put}
 use Rattle.rules.specs.Order.{Order}
 use Rattle.rules.specs.Renumber.{Renumbering}
-use Rattle.rules.specs.Step.{onCounted, setOrder}
+use Rattle.rules.specs.Step.{rowsSeparately, onCounted, setOrder}
 use Rattle.rules.specs.Ending.{told}
 use Rattle.row_entry.specs.declared.NodeEntry.{NodeEntry}
 use Rattle.row_entry.specs.View.{rowOf, rowsOf}
@@ -53,16 +53,16 @@ module _ (s : RegistryImage) (x : ℕ) (h : Seat s x) where
 
   -- what is told where one entry changes
   pub told-entry : (d : NodeEntry) (r : Row)
-      → told (viewOf s) (withRows (put (seatAt (rowsOf (s .units) (s .entries)) x) r) (viewOf s)) ≡ rowTold (stateOf (s .state .0)) (s .size) (rowOf (getD (s .entries) (x - 1) d)) r
+      → told rowsSeparately (viewOf s) (withRows (put (seatAt (rowsOf (s .units) (s .entries)) x) r) (viewOf s)) ≡ rowTold (stateOf (s .state .0)) (s .size) (rowOf (getD (s .entries) (x - 1) d)) r
   unfolding viewOf
   told-entry d r =
-      ap (λ (l : List Row). told (viewOf s) (withRows l (viewOf s))) (seat-put (rowsOf (s .units) (s .entries)) (x - 1) index below r)
+      ap (λ (l : List Row). told rowsSeparately (viewOf s) (withRows l (viewOf s))) (seat-put (rowsOf (s .units) (s .entries)) (x - 1) index below r)
       ∙ told-put (viewOf s) (x - 1) noRow r below
       ∙ ap (λ (b : Row). rowTold (stateOf (s .state .0)) (s .size) b r) (sym (entry-row d))
 
   -- what stands in front of the ending where one entry changes and a renumbering is sent
   pub front-reply : (d : NodeEntry) (a : ℕ) (r : Row) (n : Renumbering) → let c = replyChange (seatAt (viewOf s .rows) x) x a r n (viewOf s) in
-      c .first ++ told (viewOf s) (c .picture) ++ c .set ≡ rowTold (stateOf (s .state .0)) (s .size) (rowOf (getD (s .entries) (x - 1) d)) r ++ setOrder x a n
+      c .first ++ told (c .packing) (viewOf s) (c .picture) ++ c .set ≡ rowTold (stateOf (s .state .0)) (s .size) (rowOf (getD (s .entries) (x - 1) d)) r ++ setOrder x a n
   unfolding viewOf
   front-reply d a r n = ap (λ (l : List Order). l ++ setOrder x a n) (told-entry d r)
 

@@ -1,7 +1,7 @@
 -- Scans: a list of ASKs and the ending, behind the orders that stand first.
 use Prim.Native.Nat.{ℕ, suc, _+_, _-_, _<_, _≤_}
 use mathlib.Core.Path.{_≡_, refl, sym, _∙_, ap, subst}
-use mathlib.Core.Bool.{Bool, true, false, not}
+use mathlib.Core.Bool.{Bool, true, false, cond, not}
 use mathlib.Core.List.{List, [], _∷_, _++_, append-assoc, append-nil}
 use native.Mathlib.Omega.{arith}
 use borrow.Author.Tests.{lt-leb, le-leb, eq-eqb, ne-eqb}
@@ -13,14 +13,14 @@ use Rattle.rules.specs.Picture.{Picture, Off, Row, isNotOk, isOk, isOpen, isSil
 use Rattle.rules.specs.House.{maxPass}
 use Rattle.rules.specs.Event.{START, NCE, SHUTDOWN, DELAY}
 use Rattle.rules.specs.Order.{Order, NOTOK, encode, encodeAll}
-use Rattle.rules.specs.Step.{change, refuseIf, asks, scanned, scan, begin, shutDown, delayEnds, respond}
+use Rattle.rules.specs.Step.{rowsSeparately, acrossRows, change, refuseIf, asks, scanned, scan, begin, rescanned, rescan, networkChange, shutDown, delayEnds, respond}
 use Rattle.rules.specs.Ending.{becomesOk, settled, okOrder, told, waits, waitOrder, ended, endOrders, ordersOf}
 use Rattle.rules.specs.Run.{Outcome, refused, concluded, written}
 use Rattle.rules.proofs.Sizes.{told-none}
 use Rattle.registry.specs.declared.image.RegistryImage.{RegistryImage}
 use Rattle.registry.specs.declared.record.Recorded.{Recorded}
 use Rattle.registry.specs.View.{viewOf}
-use Rattle.registry.specs.Outcome.{Does, Ends, scanOrders, Scans, Marks}
+use Rattle.registry.specs.Outcome.{Does, Ends, rescanOutcome, scanOrders, Scans, Marks}
 use Rattle.wire_orders.proofs.Writing.{orders-one, orders-length, wrote-orders}
 use Rattle.registry.proofs.Doing.{takes, written-taken}
 use Rattle.registry.proofs.Telling.{told-asked}
@@ -55,7 +55,7 @@ module _ (p : Picture) (first : List Order) (rs : List Row) where
   scan-orders : ordersOf p (scan first rs p) ≡ first ++ scanOrders (withRows rs p)
   unfolding scan scanned withRows isOk ordersOf
   scan-orders =
-      ap (λ (l : List Order). l ++ endOrders (scanned rs p)) (append-nil (first ++ asks isOpen 1 rs ++ told p (scanned rs p)) ∙ ap (λ (l : List Order). first ++ asks isOpen 1 rs ++ l) (told-none p (scanned rs p) refl) ∙ append-nil (first ++ asks isOpen 1 rs))
+      ap (λ (l : List Order). l ++ endOrders (scanned rs p)) (append-nil (first ++ asks isOpen 1 rs ++ told rowsSeparately p (scanned rs p)) ∙ ap (λ (l : List Order). first ++ asks isOpen 1 rs ++ l) (told-none rowsSeparately p (scanned rs p) refl) ∙ append-nil (first ++ asks isOpen 1 rs))
       ∙ append-assoc first (asks isOpen 1 rs) (endOrders (scanned rs p))
 
   scan-parts : length (encodeAll (suc (p .pass)) (ordersOf p (scan first rs p)))
@@ -101,13 +101,22 @@ module _ (p : Picture) (n : ℕ) where
   unfolding respond refuseIf concluded
   starts-not h = ap (λ (b : Bool). concluded p (refuseIf b 9 (change (begin [] n p)))) (le-leb maxPass (p .pass) h)
 
-  pub rescans : p .pass < maxPass → concluded p (respond p (NCE n)) ≡ concluded p (change (scan (NOTOK ∷ []) (replicate (n - 1) newRow) p))
-  unfolding respond refuseIf begin
-  rescans h = ap (λ (b : Bool). concluded p (refuseIf b 9 (change (begin (NOTOK ∷ []) n p)))) (lt-leb maxPass (p .pass) h)
-
   pub rescans-not : maxPass ≤ p .pass → concluded p (respond p (NCE n)) ≡ refused 9
   unfolding respond refuseIf concluded
-  rescans-not h = ap (λ (b : Bool). concluded p (refuseIf b 9 (change (begin (NOTOK ∷ []) n p)))) (le-leb maxPass (p .pass) h)
+  rescans-not h = ap (λ (b : Bool). concluded p (refuseIf b 9 (change (networkChange n p)))) (le-leb maxPass (p .pass) h)
+
+  module _ (h : p .pass < maxPass) {ok : Bool} (e : ok ≡ isOk (p .state)) where
+    -- by the state
+    rescans-by : concluded p (respond p (NCE n)) ≡ concluded p (change (cond ok (rescan n p) (begin (NOTOK ∷ []) n p)))
+    unfolding respond refuseIf networkChange
+    rescans-by = (λ i. concluded p (refuseIf (lt-leb maxPass (p .pass) h i) 9 (change (cond (sym e i) (rescan n p) (begin (NOTOK ∷ []) n p)))))
+
+    pub rescans-notok : ok ≡ false → concluded p (respond p (NCE n)) ≡ concluded p (change (scan (NOTOK ∷ []) (replicate (n - 1) newRow) p))
+    unfolding begin
+    rescans-notok f = rescans-by ∙ ap (λ (b : Bool). concluded p (change (cond b (rescan n p) (begin (NOTOK ∷ []) n p)))) f
+
+    pub rescans-ok : ok ≡ true → concluded p (respond p (NCE n)) ≡ rescanOutcome p n
+    rescans-ok f = rescans-by ∙ ap (λ (b : Bool). concluded p (change (cond b (rescan n p) (begin (NOTOK ∷ []) n p)))) f
 
 -- SHUTDOWN writes nothing
 pub shuts : {came : RegistryImage} {r : Recorded} (p : Picture) (b : List ℕ) → _≡_ {A = Picture} (viewOf (r .picture)) (record { state = Off; pass = p .pass; size = p .size; delay = false; rows = [] })
@@ -117,7 +126,7 @@ shuts p b e n f k =
     takes p (shutDown p) e n (f ∙ ap (λ (os : List Order). length (encodeAll (p .pass) os)) (sym none)) (ap (λ (os : List Order). sets b 0 (encodeAll (p .pass) os)) (sym none)) k
   where
     none : ordersOf p (shutDown p) ≡ []
-    none = ap (λ (os : List Order). [] ++ os ++ [] ++ []) (told-none p (shutDown p .picture) refl)
+    none = ap (λ (os : List Order). [] ++ os ++ [] ++ []) (told-none rowsSeparately p (shutDown p .picture) refl)
 
 -- DELAY: 5, 8, or the SILENT rows are asked
 module _ (p : Picture) (n : ℕ) where
@@ -133,10 +142,10 @@ module _ (p : Picture) (n : ℕ) where
   unfolding respond refuseIf
   delays e f = (λ i. concluded p (refuseIf (not (eq-eqb n (p .pass) e i)) 5 (refuseIf (not (f i)) 8 (change (delayEnds p)))))
 
-pub delay-front : (p : Picture) → delayEnds p .first ++ told p (delayEnds p .picture) ++ delayEnds p .set ≡ asks isSilent 1 (p .rows)
+pub delay-front : (p : Picture) → delayEnds p .first ++ told (delayEnds p .packing) p (delayEnds p .picture) ++ delayEnds p .set ≡ asks isSilent 1 (p .rows)
 unfolding delayEnds
 delay-front p =
-    append-nil (asks isSilent 1 (p .rows) ++ told p (delayEnds p .picture))
+    append-nil (asks isSilent 1 (p .rows) ++ told (delayEnds p .packing) p (delayEnds p .picture))
     ∙ ap (λ (l : List Order). asks isSilent 1 (p .rows) ++ l) (told-asked p (delayEnds p .picture) refl) ∙ append-nil (asks isSilent 1 (p .rows))
 
 -- the order NOTOK of the next pass

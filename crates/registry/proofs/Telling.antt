@@ -12,8 +12,8 @@ use Rattle.laws.specs.Alls.{All, all-nil, all-cons, all-map}
 use Rattle.laws.specs.Bools.{or-true-right, and-true}
 use Rattle.rules.specs.Picture.{Pair, samePair, holds, isOk, Row, Status, WAITING, SETTING, LISTED, SILENT, IGNORED, Picture, withRows, withStatus, keptBy, pairsOf, pairsIn, isSilent, isSilentStatus}
 use Rattle.rules.specs.Order.{Order, NEW, INVALID}
-use Rattle.rules.specs.Step.{asked}
-use Rattle.rules.specs.Ending.{missing, packed, tell, lost, gained, tellRows, told}
+use Rattle.rules.specs.Step.{rowsSeparately, asked}
+use Rattle.rules.specs.Ending.{missing, packed, tell, lost, gained, tellRows, toldBy, told}
 use Rattle.ring_tell.specs.Told.{rowTold, rowsTold}
 
 -- every pair is one of its own list
@@ -89,21 +89,21 @@ none-ok true e = e
 none-ok false e = refl
 
 -- one row changes in a picture
-pub told-put : (p : Picture) (i : ℕ) (d e : Row) → i < length (p .rows) → told p (withRows (set (p .rows) i e) p) ≡ rowTold (p .state) (p .size) (getD (p .rows) i d) e
-unfolding told withRows rowTold
+pub told-put : (p : Picture) (i : ℕ) (d e : Row) → i < length (p .rows) → told rowsSeparately p (withRows (set (p .rows) i e) p) ≡ rowTold (p .state) (p .size) (getD (p .rows) i d) e
+unfolding told toldBy withRows rowTold
 told-put p i d e h =
     both-ok (isOk (p .state)) _
     ∙ (λ k. cond (isOk (p .state)) (told-seat INVALID lost (p .size) lost-same i d e (p .rows) h k ++ told-seat NEW gained (p .size) gained-same i d e (p .rows) h k) [])
 
 -- SILENT rows are asked
-pub told-asked : (p q : Picture) → q .rows ≡ map asked (p .rows) → told p q ≡ []
-unfolding told
+pub told-asked : (p q : Picture) → q .rows ≡ map asked (p .rows) → told rowsSeparately p q ≡ []
+unfolding told toldBy
 told-asked p q e =
     none-ok (isOk (p .state) && isOk (q .state))
     (ap (λ (l : List Row). tellRows INVALID lost (q .size) (p .rows) l ++ tellRows NEW gained (q .size) (p .rows) l) e
     ∙ (λ k. told-map INVALID lost (q .size) lost-same asked asked-keeps (p .rows) k ++ told-map NEW gained (q .size) gained-same asked asked-keeps (p .rows) k))
 
 -- all rows, where the state stays
-pub told-rows : (p : Picture) (rs : List Row) → told p (withRows rs p) ≡ rowsTold (p .state) (p .size) (p .rows) rs
-unfolding told withRows rowsTold
+pub told-rows : (p : Picture) (rs : List Row) → told rowsSeparately p (withRows rs p) ≡ rowsTold (p .state) (p .size) (p .rows) rs
+unfolding told toldBy withRows rowsTold
 told-rows p rs = both-ok (isOk (p .state)) _

@@ -11,7 +11,7 @@ use Rattle.rules.specs.House.{maxNodes, maxUnits}
 use Rattle.rules.specs.Event.{Event, START, NCE, SHUTDOWN, ANSWER, NONE, DELAY}
 use Rattle.rules.specs.Order.{Order, NOTOK, encodeAll}
 use Rattle.rules.specs.Renumber.{Renumbering}
-use Rattle.rules.specs.Step.{Verdict, Response, refuse, change, respond, asks, scanned, scan, changeRows, emptied, onCounted, conflict}
+use Rattle.rules.specs.Step.{Verdict, Response, refuse, change, respond, asks, scanned, scan, rescan, changeRows, emptied, onCounted, conflict}
 use Rattle.rules.specs.Ending.{ended, endOrders}
 use Rattle.rules.specs.Run.{Outcome, refused, concluded, left, lent, numberOf, written, Record, after}
 use Rattle.laws.specs.Alls.{All}
@@ -94,6 +94,10 @@ pub record Scans (p : Picture) (before : List ℕ) (at : ℕ) (r : Recorded) (af
   pub number : r .number ≡ 0
   pub buffer : after ≡ sets before at (encodeAll (suc (p .pass)) (scanOrders p))
   pub length : r .length ≡ at + length (encodeAll (suc (p .pass)) (scanOrders p))
+
+-- The outcome of an NCE in OK.
+abbrev pub rescanOutcome : Picture → (nodes : ℕ) → Outcome
+rescanOutcome p n = concluded p (change (rescan n p))
 
 -- The outcomes of an ANSWER or a NONE for position x: the row of x becomes r, and n is sent to address a; or the address is bad, and
 -- counted by the verdict on it.

@@ -1,13 +1,16 @@
 // Scans of the ring: START, NCE and restarts; SHUTDOWN; DELAY.
+ghost use mathlib.Core.Path.{_≡_};
+ghost use mathlib.Core.Bool.{true};
 ghost use Prim.Native.Nat.{suc, _+_, _≤_, _<_};
 ghost use lib.ListN.{length};
 ghost use Rattle.rules.specs.House.{maxPass, maxNodes};
+ghost use Rattle.rules.specs.Picture.{isOk};
 ghost use Rattle.rules.specs.Event.{START, NCE, SHUTDOWN, DELAY};
 ghost use Rattle.rules.specs.Order.{encodeAll};
 ghost use Rattle.rules.specs.Step.{respond};
 ghost use Rattle.rules.specs.Run.{concluded, written};
 ghost use Rattle.registry.specs.View.{viewOf};
-ghost use Rattle.registry.specs.Outcome.{scanOrders, Scans, Does, Marks};
+ghost use Rattle.registry.specs.Outcome.{scanOrders, Scans, rescanOutcome, Does, Marks};
 use super::image;
 use super::image::RegistryImage;
 use super::record::Recorded;
@@ -22,6 +25,7 @@ use ring_state::NOTOK;
 use ring_state::RegistryState;
 use ring_state::STOPPED;
 use ring_tell::asks::Which;
+use wire_orders::Delta;
 use wire_orders::Notice;
 
 // The last pass.
@@ -60,13 +64,47 @@ impl RegistryImage {
         self.scan(out, 0)
     }
 
-    // NCE: the same, with the order NOTOK first.
+    // NCE in OK: OK stays. The new units are asked, every pair listed so far is told INVALID, and a running delay ends.
+    fn rescan(mut self, out: &mut [u8], nodes: u8) -> Recorded
+        requires { ⌜ (1 ≤ nodes) × (nodes ≤ maxNodes) × (length (written (rescanOutcome (viewOf self) nodes)) ≤ length (now out))
+            × (3 ≤ self .size) × (self .pass < maxPass) × (isOk (viewOf self .state) ≡ true) ⌝ }
+        ensures { λ r. ⌜ Does self (rescanOutcome (viewOf self) nodes) (now (out .entry)) r (now (out .exit)) ⌝ }
+    {
+        let next = self.pass + 1;
+        let units = nodes - 1;
+        let listed = self.listing();
+        let entries = image::new_entries();
+        let asked = ring_tell::asks::write_asks(out, 0, next, Which::Open, units as usize, entries);
+        let told = wire_orders::write_deltas(
+            out,
+            asked,
+            next,
+            Delta::Invalid,
+            self.size,
+            &listed.blocks,
+            &listed.numbers,
+            listed.count,
+        );
+        self.pass = next;
+        self.units = units;
+        self.entries = entries;
+        let stopped = CfgDelay(STOPPED);
+        self.delay = stopped;
+        self.finish(out, told)
+    }
+
+    // NCE: in NOTOK as START, with the order NOTOK first; in OK it keeps OK.
     pub(crate) fn network_change(mut self, out: &mut [u8], nodes: u8) -> Recorded
-        requires { ⌜ (1 ≤ nodes) × (nodes ≤ maxNodes) × (length (written (concluded (viewOf self) (respond (viewOf self) (NCE nodes)))) ≤ length (now out)) ⌝ }
+        requires { ⌜ (1 ≤ nodes) × (nodes ≤ maxNodes) × (3 ≤ self .size)
+            × (length (written (concluded (viewOf self) (respond (viewOf self) (NCE nodes)))) ≤ length (now out)) ⌝ }
         ensures { λ r. ⌜ Does self (concluded (viewOf self) (respond (viewOf self) (NCE nodes))) (now (out .entry)) r (now (out .exit)) ⌝ }
     {
         if MAX_PASS <= self.pass {
             return self.refuse(NO_PASS_LEFT);
+        }
+        let state = self.state;
+        if ring_state::is_ok(state) {
+            return self.rescan(out, nodes);
         }
         let at = wire_orders::write_notice(out, 0, self.pass + 1, Notice::NotOk);
         self.units = nodes - 1;

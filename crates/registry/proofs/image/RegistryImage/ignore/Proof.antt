@@ -10,7 +10,7 @@ use Rattle.registry.specs.declared.image.RegistryImage.{RegistryImage}
 use Rattle.row_entry.specs.View.{rowsOf}
 use Rattle.rules.specs.Ending.{told}
 use Rattle.rules.specs.Picture.{Row, seatAt, withRows}
-use Rattle.rules.specs.Step.{changeRows, onCounted}
+use Rattle.rules.specs.Step.{rowsSeparately, changeRows, onCounted}
 use borrow.Author.Needs.{needs}
 use mathlib.Core.Bool.{true}
 use mathlib.Core.List.{List, [], _++_, append-nil}
@@ -34,7 +34,7 @@ module _ (w : tie.After-all-counted) where
   unfolding viewOf
   counted-rows = counted-at (image w) (startOf w .args .position .0) (startOf w .pre .0) _ _ (w .all-counted .ensures .0)
 
-  told-all : told (viewOf (image w)) (withRows (rowsAfter w) (viewOf (image w))) ++ []
+  told-all : told rowsSeparately (viewOf (image w)) (withRows (rowsAfter w) (viewOf (image w))) ++ []
       ≡ rowsTold (stateOf (image w .state .0)) (image w .size) (viewOf (image w) .rows) (rowsOf (image w .units) (w .all-counted .result))
   unfolding viewOf
   told-all =

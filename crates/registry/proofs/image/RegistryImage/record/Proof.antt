@@ -198,7 +198,7 @@ network-change-requires c κs =
     let m = at-event .before .before .before in
     let r = readAt m in
     let w = formed r (at-event .event2 .given .1) in
-    (w .0, w .1, fits-at r (own-step m (at-event .event2 .given .1)))
+    (w .0, w .1, reached-size (viewOf (image r)) (startOf r .pre .reached), fits-at r (own-step m (at-event .event2 .given .1)))
 
 cast-hear : tie.Need-cast-hear
 cast-hear c =

@@ -64,33 +64,32 @@ impl RegistryImage {
         self.scan(out, 0)
     }
 
-    // NCE in OK: OK stays. The new units are asked, every pair listed so far is told INVALID, and no delay runs.
-    pub(crate) fn rescan(mut self, out: &mut [u8], nodes: u8) -> Recorded
+    // NCE in OK: OK stays. The new units are asked, every pair listed so far is told INVALID, and a running delay ends.
+    fn rescan(mut self, out: &mut [u8], nodes: u8) -> Recorded
         requires { ⌜ (1 ≤ nodes) × (nodes ≤ maxNodes) × (length (written (rescanOutcome (viewOf self) nodes)) ≤ length (now out))
             × (3 ≤ self .size) × (self .pass < maxPass) × (isOk (viewOf self .state) ≡ true) ⌝ }
         ensures { λ r. ⌜ Does self (rescanOutcome (viewOf self) nodes) (now (out .entry)) r (now (out .exit)) ⌝ }
     {
-        let before = self.entries;
-        let listed = ring_listing::listing_of(self.units as usize, before);
-        let pass = self.pass + 1;
+        let next = self.pass + 1;
         let units = nodes - 1;
+        let listed = self.listing();
         let entries = image::new_entries();
-        let asked = ring_tell::asks::write_asks(out, 0, pass, Which::Open, units as usize, entries);
+        let asked = ring_tell::asks::write_asks(out, 0, next, Which::Open, units as usize, entries);
         let told = wire_orders::write_deltas(
             out,
             asked,
-            pass,
+            next,
             Delta::Invalid,
             self.size,
             &listed.blocks,
             &listed.numbers,
             listed.count,
         );
-        self.pass = pass;
+        self.pass = next;
         self.units = units;
         self.entries = entries;
-        let delay = CfgDelay(STOPPED);
-        self.delay = delay;
+        let stopped = CfgDelay(STOPPED);
+        self.delay = stopped;
         self.finish(out, told)
     }
 

@@ -7,7 +7,7 @@ use Rattle.ring_listing.proofs.Promises.{promises}
 use Rattle.ring_listing.specs.declared.Listing.{Listing}
 use Rattle.ring_state.specs.State.{runs, stateOf}
 use Rattle.row_entry.specs.View.{rowsOf}
-use Rattle.rules.specs.Listing.{listedPairs, listing}
+use Rattle.rules.specs.Listing.{listedPairs}
 use Rattle.rules.specs.Picture.{Picture}
 use Rattle.rules.specs.Step.{rescan, rescanned}
 use Rattle.wire_pairs.specs.View.{pairsFrom}
@@ -21,12 +21,13 @@ use Rattle.registry.proofs.image.RegistryImage.rescan.Tie as tie
 
 -- once the new entries are made: the call, and the picture that came
 abbrev startOf : tie.After-new-entries → tie.Start
-startOf e = e .before .before .before .before .before .before
+startOf e = e .before .before .before .before
 
 abbrev image : tie.After-new-entries → RegistryImage
 image e = startOf e .args .self
 
 module _ (e : tie.After-new-entries) where
+  -- the picture that goes to the ending
   left : _≡_ {A = Picture}
       (record { state = stateOf (image e .state .0); pass = image e .pass + 1; size = image e .size; delay = false; rows = rowsOf (startOf e .args .nodes - 1) (e .new-entries .result) })
       (rescan (startOf e .args .nodes) (viewOf (image e)) .picture)
@@ -40,10 +41,11 @@ module _ (e : tie.After-new-entries) where
         rows = e .new-entries .ensures .0 (startOf e .args .nodes - 1) (omega (arith, startOf e .pre .1)) i;
       })
 
-  listed : let l = e .before .before .listing-of .result in pairsFrom (l .count) (l .blocks) (l .numbers) ≡ listedPairs (viewOf (image e))
-  unfolding viewOf listing listedPairs
+  -- the pairs that are told
+  listed : let l = e .before .listing .result in pairsFrom (l .count) (l .blocks) (l .numbers) ≡ listedPairs (viewOf (image e))
+  unfolding listedPairs
   listed =
-      let made = e .before .before .listing-of .ensures in
+      let made = e .before .listing .ensures in
       ap (λ (l : Listing). pairsFrom (l .count) (l .blocks) (l .numbers)) (made .0) ∙ promises .pairs _ (made .1)
 
 write-asks-requires : tie.Need-write-asks-requires
@@ -59,7 +61,7 @@ write-deltas-requires c κs =
     let at-write-asks = c .before .before .before .before .before .before .before .before in
     let e = at-write-asks .before .before in
     let start = startOf e in
-    (start .pre .3, listed-room (viewOf (image e)) (start .args .nodes) (start .pre .5) (left e) (listed e) (start .args .out .now) (start .pre .2) (at-write-asks .write-asks .ensures))
+    (start .pre .3, omega (arith, listed-room (viewOf (image e)) (start .args .nodes) (start .pre .5) (left e) (listed e) (start .args .out .now) (start .pre .2) (at-write-asks .write-asks .ensures)))
 
 finish-requires : tie.Need-finish-requires
 unfolding viewOf runs
@@ -85,5 +87,5 @@ returns c =
 pub rescan-spec : {M : Type 1} → statement M
 rescan-spec =
     tie.close
-    (tie.spec (search needs) (search needs) (search needs) (search needs) (search needs) (search needs) write-asks-requires
+    (tie.spec (search needs) (search needs) (search needs) (search needs) (search needs) write-asks-requires
     write-deltas-requires finish-requires (search needs) returns)

@@ -84,7 +84,8 @@ packed-bytes (suc most) cap (a ∷ ps) =
     let g : length (take cap (a ∷ ps)) ≡ min cap (length (a ∷ ps)) = length-take cap (a ∷ ps) in
     omega arith
 
--- no more orders than there may be, and all but the last are full: "at most (L−1)/2 rounded down per order", so many at least
+-- no more orders than there may be; and as many pairs as fill all but the last: "at most (L−1)/2 rounded down per order", so many at
+-- least
 abbrev minTold : ℕ
 minTold = (minSize - 1) / 2
 
@@ -94,12 +95,12 @@ packed-few zero cap ps = omega arith
 packed-few (suc most) cap [] = omega arith
 packed-few (suc most) cap (a ∷ ps) = let e = packed-few most cap (drop cap (a ∷ ps)) in omega arith
 
-packed-full : (most cap : ℕ) (ps : List Pair) → minTold ≤ cap → minTold * length (packed most cap ps) ≤ length ps + (minTold - 1)
+packed-count : (most cap : ℕ) (ps : List Pair) → minTold ≤ cap → minTold * length (packed most cap ps) ≤ length ps + (minTold - 1)
 unfolding packed
-packed-full zero cap ps h = omega arith
-packed-full (suc most) cap [] h = omega arith
-packed-full (suc most) cap (a ∷ ps) h =
-    let e = packed-full most cap (drop cap (a ∷ ps)) h in
+packed-count zero cap ps h = omega arith
+packed-count (suc most) cap [] h = omega arith
+packed-count (suc most) cap (a ∷ ps) h =
+    let e = packed-count most cap (drop cap (a ∷ ps)) h in
     let f : length (drop cap (a ∷ ps)) ≡ length (a ∷ ps) - cap = length-drop cap (a ∷ ps) in
     omega arith
 
@@ -413,7 +414,7 @@ told-listed p q h s = go (isOk (p .state) && isOk (q .state))
         let m : length (listedPairs p) ≡ length (listing p) = length-map (listing p) _ in
         let c : minTold ≤ (q .size - 1) / 2 = omega arith in
         let b = tell-bytes INVALID tells-invalid (q .size) (listedPairs p) in
-        let n = packed-full (length (listedPairs p)) ((q .size - 1) / 2) (listedPairs p) c in
+        let n = packed-count (length (listedPairs p)) ((q .size - 1) / 2) (listedPairs p) c in
         omega arith
     go false = omega arith
 

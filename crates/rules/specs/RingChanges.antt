@@ -165,10 +165,10 @@ ringChanges =
     ∷ edge
     (pictureAfter 12 delayed)
     (picture (record { state = Ok; pass = 2; size = 12; delay = false; rows = unit WAITING 0 0 ∷ unit WAITING 0 0 ∷ [] }))
-    -- the last of the rescan brings nothing where nothing is new and nobody is SILENT
     ∷ edge
     (pictureAfter 12 (delayed ++ withRoom 13 0x4D45_04_00000002_01_0102_01_2201 ∷ withRoom 8 0x4D45_05_00000002_02 ∷ []))
     (picture (record { state = Ok; pass = 2; size = 12; delay = true; rows = unit (LISTED 0x0102 (record { block = 0x22; number = 0x01 } ∷ [])) 0 0 ∷ unit SILENT 0 1 ∷ [] }))
+    -- the last of the rescan brings nothing where nothing is new and nobody is SILENT
     ∷ edge
     (records 12
     (withRoom 8 0x4D45_01_00000000_02

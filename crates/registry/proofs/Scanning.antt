@@ -13,7 +13,7 @@ use Rattle.rules.specs.Picture.{Picture, Off, Row, isNotOk, isOk, isOpen, isSil
 use Rattle.rules.specs.House.{maxPass}
 use Rattle.rules.specs.Event.{START, NCE, SHUTDOWN, DELAY}
 use Rattle.rules.specs.Order.{Order, NOTOK, encode, encodeAll}
-use Rattle.rules.specs.Step.{rowsSeparately, acrossRows, change, refuseIf, asks, scanned, scan, begin, rescanned, rescan, networkChange, shutDown, delayEnds, respond}
+use Rattle.rules.specs.Step.{rowsSeparately, change, refuseIf, asks, scanned, scan, begin, rescan, networkChange, shutDown, delayEnds, respond}
 use Rattle.rules.specs.Ending.{becomesOk, settled, okOrder, told, waits, waitOrder, ended, endOrders, ordersOf}
 use Rattle.rules.specs.Run.{Outcome, refused, concluded, written}
 use Rattle.rules.proofs.Sizes.{told-none}
@@ -106,17 +106,16 @@ module _ (p : Picture) (n : ℕ) where
   rescans-not h = ap (λ (b : Bool). concluded p (refuseIf b 9 (change (networkChange n p)))) (le-leb maxPass (p .pass) h)
 
   module _ (h : p .pass < maxPass) {ok : Bool} (e : ok ≡ isOk (p .state)) where
-    -- by the state
-    rescans-by : concluded p (respond p (NCE n)) ≡ concluded p (change (cond ok (rescan n p) (begin (NOTOK ∷ []) n p)))
+    by-state : {t : Bool} → ok ≡ t → concluded p (respond p (NCE n)) ≡ concluded p (change (cond t (rescan n p) (begin (NOTOK ∷ []) n p)))
     unfolding respond refuseIf networkChange
-    rescans-by = (λ i. concluded p (refuseIf (lt-leb maxPass (p .pass) h i) 9 (change (cond (sym e i) (rescan n p) (begin (NOTOK ∷ []) n p)))))
+    by-state f = (λ i. concluded p (refuseIf (lt-leb maxPass (p .pass) h i) 9 (change (cond ((sym e ∙ f) i) (rescan n p) (begin (NOTOK ∷ []) n p)))))
 
     pub rescans-notok : ok ≡ false → concluded p (respond p (NCE n)) ≡ concluded p (change (scan (NOTOK ∷ []) (replicate (n - 1) newRow) p))
     unfolding begin
-    rescans-notok f = rescans-by ∙ ap (λ (b : Bool). concluded p (change (cond b (rescan n p) (begin (NOTOK ∷ []) n p)))) f
+    rescans-notok f = by-state f
 
     pub rescans-ok : ok ≡ true → concluded p (respond p (NCE n)) ≡ rescanOutcome p n
-    rescans-ok f = rescans-by ∙ ap (λ (b : Bool). concluded p (change (cond b (rescan n p) (begin (NOTOK ∷ []) n p)))) f
+    rescans-ok f = by-state f
 
 -- SHUTDOWN writes nothing
 pub shuts : {came : RegistryImage} {r : Recorded} (p : Picture) (b : List ℕ) → _≡_ {A = Picture} (viewOf (r .picture)) (record { state = Off; pass = p .pass; size = p .size; delay = false; rows = [] })

@@ -213,8 +213,8 @@ unfolding begin scan rescan shutDown changeRows delayEnds keepAnswer
 aimed-ways p =
     record {
       starts = λ n l. aimed (START n) (begin [] n p) (asks-aimed (START n) (begin [] n p) isOpen _) all-nil;
-      rescans = λ n l i. aimed (NCE n) (begin (NOTOK ∷ []) n p) (all-cons tt (asks-aimed (NCE n) (begin (NOTOK ∷ []) n p) isOpen _)) all-nil;
-      rescansInOk = λ n l i. aimed (NCE n) (rescan n p) (asks-aimed (NCE n) (rescan n p) isOpen _) all-nil;
+      ringChanges = λ n l i. aimed (NCE n) (begin (NOTOK ∷ []) n p) (all-cons tt (asks-aimed (NCE n) (begin (NOTOK ∷ []) n p) isOpen _)) all-nil;
+      ringChangesInOk = λ n l i. aimed (NCE n) (rescan n p) (asks-aimed (NCE n) (rescan n p) isOpen _) all-nil;
       shuts = aimed SHUTDOWN (shutDown p) all-nil all-nil;
       silences = λ c x s o. aimed (NONE c x) _ all-nil all-nil;
       delays = λ c d. aimed (DELAY c) (delayEnds p) (asks-aimed (DELAY c) (delayEnds p) isSilent _) all-nil;

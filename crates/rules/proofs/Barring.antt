@@ -199,8 +199,8 @@ module _ (p : Picture) (h : Pairwise BothClear (p .rows)) where
   clear-ways =
       record {
         starts = λ n l. pairwise-replicate (n - 1) newRow (idle-clear newRow newRow idle-new);
-        rescans = λ n l i. pairwise-replicate (n - 1) newRow (idle-clear newRow newRow idle-new);
-        rescansInOk = λ n l i. pairwise-replicate (n - 1) newRow (idle-clear newRow newRow idle-new);
+        ringChanges = λ n l i. pairwise-replicate (n - 1) newRow (idle-clear newRow newRow idle-new);
+        ringChangesInOk = λ n l i. pairwise-replicate (n - 1) newRow (idle-clear newRow newRow idle-new);
         shuts = pairwise-nil;
         silences = λ c x s o. put-clear c x s _ (all-of _ (λ t. idle-clear _ t (idle-silenced _)));
         delays = λ c d. pairwise-each rests-clear h (each-map Rests asked rests-asked (p .rows));

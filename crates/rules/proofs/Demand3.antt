@@ -22,7 +22,7 @@ use Rattle.rules.specs.Step.{Change, Response, change, refuseIf, scanned
 use Rattle.rules.specs.Ending.{becomesOk, settled, ended, pictureOf}
 use Rattle.rules.specs.Run.{Outcome, onEvent, onDecoded, concluded, step, Record, offered, left, sentBy, Sent, next, after, history}
 use Rattle.rules.specs.Claims.{Exists8, ifTaken, accepted, isReply, countReply, repliesIn, pictureAt, sentAt, recordAt, repliesBetween, wayState, Awaits, Arrived, Names, Allowed, bound, Reaches, arrives, holdsFewer, Demand3}
-use Rattle.rules.proofs.Ways.{Ways, every-taken, Offered, was-refused, was-taken, offered-cases}
+use Rattle.rules.proofs.Ways.{Ways, refuseIf-false, every-taken, Offered, was-refused, was-taken, offered-cases}
 use Rattle.rules.proofs.Sound.{Sound, Formed}
 use Rattle.rules.proofs.Decode.{formed}
 use Rattle.rules.proofs.Encode.{decode-encode}
@@ -51,21 +51,16 @@ open-heard r h = go (r .status) h
     go SILENT h = refl
     go (IGNORED a) h = clash h refl
 
-refuseIf-false : (b : Bool) (n : ℕ) (r : Response) → b ≡ false → refuseIf b n r ≡ r
-unfolding refuseIf
-refuseIf-false true n r h = clash refl h
-refuseIf-false false n r h = refl
-
 -- a silence for an open question is taken
 silence-responds : (p : Picture) (x : ℕ) → openAt p x ≡ true
     → respond p (NONE (p .pass) x) ≡ change (changeRows (put (seatAt (p .rows) x) (silenced (seatAt (p .rows) x .row))) p)
 unfolding respond
 silence-responds p x o =
     let s = open-seated p x o in
-    refuseIf-false _ _ _ (ap not (eq-eqb (p .pass) (p .pass) refl))
-    ∙ refuseIf-false _ _ _ (s .0)
-    ∙ refuseIf-false _ _ _ (open-heard _ (s .1))
-    ∙ refuseIf-false _ _ _ (ap not (s .1))
+    refuseIf-false _ _ (ap not (eq-eqb (p .pass) (p .pass) refl))
+    ∙ refuseIf-false _ _ (s .0)
+    ∙ refuseIf-false _ _ (open-heard _ (s .1))
+    ∙ refuseIf-false _ _ (ap not (s .1))
 
 silence-taken : (p : Picture) (x : ℕ) → takes (p .state) (NONE (p .pass) x) ≡ true → openAt p x ≡ true → (r : Record) → decode (r .bytes) ≡ some (NONE (p .pass) x)
     → minRoom ≤ r .room
@@ -73,9 +68,9 @@ silence-taken : (p : Picture) (x : ℕ) → takes (p .state) (NONE (p .pass) x) 
 unfolding accepted step ifTaken concluded onDecoded onEvent
 silence-taken p x s o r d m =
     ap (λ (z : Response). ifTaken (concluded p z) (decode (r .bytes)))
-    (refuseIf-false _ _ _ (le-ltb (r .room) minRoom m)
+    (refuseIf-false _ _ (le-ltb (r .room) minRoom m)
     ∙ ap (onDecoded p) d
-    ∙ refuseIf-false _ _ _ (ap not s)
+    ∙ refuseIf-false _ _ (ap not s)
     ∙ silence-responds p x o)
     ∙ d
 
@@ -193,8 +188,8 @@ module _ (b : Bool) (n : ℕ) (p : Picture) where
   stays-ways =
       record {
         starts = λ m l h. absurd h;
-        rescans = λ m l i h. absurd h;
-        rescansInOk = λ m l i h. absurd h;
+        ringChanges = λ m l i h. absurd h;
+        ringChangesInOk = λ m l i h. absurd h;
         shuts = λ h. absurd h;
         silences = λ c x i o h w. record { state = w .state; since = w .since };
         delays = λ c d h. absurd h;
@@ -215,8 +210,8 @@ unfolding begin scan scanned rescan rescanned takes isOk wayState
 begins-ways p n =
     record {
       starts = λ m l t h. record { state = from-other (starts-off (p .state) m t); rows = ap new h };
-      rescans = λ m l i t h. record { state = from-other i; rows = ap new h };
-      rescansInOk = λ m l i t h. record { state = from-ok i; rows = ap new h };
+      ringChanges = λ m l i t h. record { state = from-other i; rows = ap new h };
+      ringChangesInOk = λ m l i t h. record { state = from-ok i; rows = ap new h };
       shuts = λ t h. absurd h;
       silences = λ c x i o t h. absurd h;
       delays = λ c d t h. absurd h;

@@ -10,8 +10,8 @@ pub mod Questions
 pub mod Runs
 pub mod Distinct
 pub mod Demand3
-pub mod RingChange
 pub mod Sizes
+pub mod RingChange
 pub mod Off
 pub mod Records
 pub mod Values

@@ -258,8 +258,8 @@ module _ (p : Picture) where
   falls-ways =
       record {
         starts = λ n l h. absurd h;
-        rescans = λ n l i h. absurd h;
-        rescansInOk = λ n l i h. absurd h;
+        ringChanges = λ n l i h. absurd h;
+        ringChangesInOk = λ n l i h. absurd h;
         shuts = λ h. absurd h;
         silences = λ c x s o h f. onto c x s _ (put-falls _ _ (silenced-work _ o) (lower-silenced _ (s .heard)));
         delays = λ c d h. absurd h;

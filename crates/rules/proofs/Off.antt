@@ -32,8 +32,8 @@ unfolding begin scan scanned rescan rescanned shutDown changeRows withRows delay
 off-ways p =
     record {
       starts = λ n l t s. clash (ap isOff s) refl;
-      rescans = λ n l i t s. clash (ap isOff s) refl;
-      rescansInOk = λ n l i t s. clash (ap isOff s) refl;
+      ringChanges = λ n l i t s. clash (ap isOff s) refl;
+      ringChangesInOk = λ n l i t s. clash (ap isOff s) refl;
       shuts = λ t s. refl;
       silences = λ c x i o t s. off-takes p (NONE c x) s refl t;
       delays = λ c d t s. off-takes p (DELAY c) s refl t;

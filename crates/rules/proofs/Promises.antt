@@ -11,7 +11,7 @@ use Rattle.rules.specs.Picture.{legalSize}
 use Rattle.rules.specs.Promises.{Promises}
 use Rattle.rules.proofs.Demand3.{demand3}
 use Rattle.rules.proofs.RingChange.{ringChange}
-use Rattle.rules.proofs.Records.{bounds, fits, refusal, carried}
+use Rattle.rules.proofs.Records.{bounds, fits, checks, refusal, carried}
 use Rattle.rules.proofs.Free.{freeNumbers}
 use Rattle.rules.proofs.Aimed.{setsAimed}
 use Rattle.rules.proofs.Barring.{unbarred}
@@ -38,6 +38,7 @@ promises =
       fits = fits;
       unbarred = unbarred;
       emptyInOff = emptyInOff;
+      checks = checks;
       refusal = refusal;
       carried = carried;
       setsAimed = setsAimed;

@@ -162,8 +162,8 @@ module _ (p : Picture) where
   asked-ways =
       record {
         starts = λ n l x o. inl (open-asks [] _ x o);
-        rescans = λ n l i x o. inl (open-asks (NOTOK ∷ []) _ x o);
-        rescansInOk = λ n l i x o. inl (open-asks [] _ x o);
+        ringChanges = λ n l i x o. inl (open-asks (NOTOK ∷ []) _ x o);
+        ringChangesInOk = λ n l i x o. inl (open-asks [] _ x o);
         shuts = λ x o. clash o (nothing-open x);
         silences = λ c x s i y o. inr (refl, onto c x s _ (each-put Closes closes-same _ _ (closes-silenced _)) y o);
         delays = λ c d x o. same-pass (delay-asks p x o);

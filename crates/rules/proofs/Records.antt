@@ -1,19 +1,23 @@
 -- One record: the orders fit, a refusal changes nothing, orders carry the pass after the event.
 use Prim.Native.Nat.{ℕ, zero, suc, _*_, _≤_}
-use mathlib.Core.Path.{_≡_, refl, ap}
+use mathlib.Core.Path.{_≡_, refl, _∙_, ap}
+use mathlib.Core.Bool.{not}
 use mathlib.Core.List.{List, [], _∷_, _++_, map}
 use native.Mathlib.Omega.{arith}
+use borrow.Author.Tests.{lt-ltb, le-ltb, ne-eqb}
 use lib.ListN.{length, length-append, length-map}
 use Rattle.laws.specs.Buffers.{sets-start}
-use Rattle.rules.specs.House.{maxPairs}
+use Rattle.rules.specs.House.{minRoom, maxPairs}
 use Rattle.rules.specs.Listing.{entriesOf, entriesFrom, listing}
 use Rattle.laws.specs.Lists.{collect}
 use Rattle.laws.specs.Alls.{All, all-nil, all-cons, all-head, all-tail, all-everywhere}
 use Rattle.rules.specs.Picture.{Picture, Row, Kept, nothing, kept, keptBy, keptIn, pairsIn, noRow, rowAt}
+use Rattle.rules.specs.Event.{Event, START, NCE, SHUTDOWN, ANSWER, NONE, DELAY}
 use Rattle.rules.specs.Order.{Order, encode, encodeAll}
-use Rattle.rules.specs.Run.{Outcome, refused, taken, Record, offered, left, Sent, sentWith, sentBy, written, lent}
-use Rattle.rules.specs.Claims.{pictureAt, recordAt, Fits, Bounds, Refusal, Carried}
-use Rattle.rules.proofs.Ways.{Offered, was-refused, was-taken, offered-cases}
+use Rattle.rules.specs.Step.{refuse, respond}
+use Rattle.rules.specs.Run.{Outcome, refused, taken, onEvent, onDecoded, concluded, step, Record, offered, left, Sent, sentWith, sentBy, written, lent}
+use Rattle.rules.specs.Claims.{pictureAt, recordAt, Fits, Bounds, OfAnotherPass, Checks, Refusal, Carried}
+use Rattle.rules.proofs.Ways.{refuseIf-true, refuseIf-false, Offered, was-refused, was-taken, offered-cases}
 use Rattle.rules.proofs.Sound.{Sound, Proper, RowProper}
 use Rattle.rules.proofs.Decode.{formed}
 use Rattle.rules.proofs.Sizes.{encode-all-size, largest, size-largest, row-few, listing-size}
@@ -38,6 +42,25 @@ fits l rs =
   where
     at : (k : ℕ) → length (written (offered (pictureAt l rs k) (recordAt rs k))) ≤ largest
     at k = record-fits (pictureAt l rs k) (recordAt rs k) (running-at l rs k .sound)
+
+-- the numbers that are looked at first
+pub checks : (p : Picture) (r : Record) → Checks p r
+unfolding step concluded onDecoded onEvent respond
+checks p r =
+    record {
+      room = λ l. ap (concluded p) (refuseIf-true _ _ (lt-ltb (r .room) minRoom l));
+      malformed = λ m d. ap (concluded p) (refuseIf-false _ _ (le-ltb (r .room) minRoom m) ∙ ap (onDecoded p) d);
+      anotherPass = λ m e d t o.
+          ap (concluded p) (refuseIf-false _ _ (le-ltb (r .room) minRoom m) ∙ ap (onDecoded p) d ∙ refuseIf-false _ _ (ap not t) ∙ other e o);
+    }
+  where
+    other : (e : Event) → OfAnotherPass e (p .pass) → respond p e ≡ refuse 5
+    other (START n) o = absurd o
+    other (NCE n) o = absurd o
+    other SHUTDOWN o = absurd o
+    other (ANSWER c x a ps) o = refuseIf-true _ _ (ap not (ne-eqb c (p .pass) o))
+    other (NONE c x) o = refuseIf-true _ _ (ap not (ne-eqb c (p .pass) o))
+    other (DELAY c) o = refuseIf-true _ _ (ap not (ne-eqb c (p .pass) o))
 
 pub refusal : (p : Picture) (r : Record) → Refusal p r
 unfolding left written sentBy lent

@@ -1,26 +1,29 @@
--- A ring change in OK: what it leaves, and the orders that it gives.
-use Prim.Native.Nat.{ℕ, zero, suc, _-_, _/_, _≤_, min}
+-- START and NCE, order for order.
+use Prim.Native.Nat.{ℕ, zero, suc, _-_, _/_, _≤_, _<_, min}
 use mathlib.Core.Path.{_≡_, refl, sym, _∙_, ap, subst}
-use mathlib.Core.Bool.{Bool, true, false, cond, not, _&&_, _||_}
+use mathlib.Core.Bool.{Bool, true, false, cond, not, _&&_}
 use mathlib.Core.List.{List, [], _∷_, _++_, map, append-nil}
-use mathlib.Core.Option.{Option, none, some}
+use mathlib.Core.Option.{some}
 use mathlib.Core.Logic.{_⊎_, inl, inr}
 use native.Mathlib.Omega.{arith}
-use borrow.Author.Tests.{leb-true, leb-false}
+use borrow.Author.Tests.{leb-true, leb-false, le-ltb, lt-leb}
 use lib.Dec.{leb}
 use lib.ListN.{length, take, drop, replicate, length-take, length-drop, take-append-drop}
 use Rattle.laws.specs.Lists.{any, collect, upFrom}
-use Rattle.laws.specs.Bools.{clash, decide, and-none, cond-false}
-use Rattle.rules.specs.Picture.{Ok, isNotOk, isOk, Pair, Row, Picture, withState, withDelay, isOpen, isOpenStatus, isSilent, isSilentStatus, newRow}
-use Rattle.rules.specs.Event.{Event, START, NCE, SHUTDOWN, ANSWER, NONE, DELAY, decode}
-use Rattle.rules.specs.Order.{Order, ASK, INVALID}
-use Rattle.rules.specs.Step.{Change, acrossRows, change, respond, asks, rescanned, rescan}
+use Rattle.laws.specs.Bools.{decide, and-none, cond-false}
+use Rattle.rules.specs.House.{minRoom, maxPass}
+use Rattle.rules.specs.Picture.{State, NotOk, Ok, isNotOk, isOk, Pair, Row, Picture, withState, withDelay, isOpen, isOpenStatus, isSilent, isSilentStatus, newRow, fresh}
+use Rattle.rules.specs.Event.{Event, START, NCE, decode}
+use Rattle.rules.specs.Order.{Order, ASK, OK, NOTOK, INVALID}
+use Rattle.rules.specs.Step.{Change, rowsSeparately, acrossRows, change, refuseIf, asks, scanned, scan, begin, rescanned, rescan, networkChange, takes, respond}
 use Rattle.rules.specs.Listing.{listedPairs}
 use Rattle.rules.specs.Ending.{becomesOk, settled, okOrder, packed, tell, toldBy, told, waits, waitOrder, ended, endOrders, ordersOf, pictureOf}
-use Rattle.rules.specs.Run.{Outcome, taken, concluded, Record, offered}
-use Rattle.rules.specs.Claims.{ifTaken, accepted, pictureAt, recordAt, Full, no-order, last-order, full-order, KeepsOk, RingChange}
-use Rattle.rules.proofs.Ways.{Ways, every-taken, Offered, was-refused, was-taken, offered-cases}
-use Rattle.rules.proofs.Demand3.{running-at}
+use Rattle.rules.specs.Run.{Outcome, taken, onEvent, onDecoded, concluded, step, Record, offered, after}
+use Rattle.rules.specs.Claims.{Full, no-order, last-order, full-order, begun, Begins, KeepsOk, RingChange}
+use Rattle.rules.proofs.Ways.{refuseIf-false}
+use Rattle.rules.proofs.Along.{along}
+use Rattle.rules.proofs.Runs.{Running, running-fresh, running-taken}
+use Rattle.rules.proofs.Sizes.{open-no-ok, open-no-wait, told-none}
 
 -- pairs that are packed come out again, one behind the other
 packed-all : (most cap : ℕ) (ps : List Pair) → 1 ≤ cap → length ps ≤ most → collect (λ (q : List Pair). q) (packed most cap ps) ≡ ps
@@ -69,90 +72,123 @@ unfolding asks isOpen isOpenStatus newRow upFrom
 asks-new x zero = refl
 asks-new x (suc k) = ap (λ (os : List Order). ASK x ∷ os) (asks-new (suc x) k)
 
+some-open : (k : ℕ) → 1 ≤ k → any isOpen (replicate k newRow) ≡ true
+unfolding any isOpen isOpenStatus newRow
+some-open zero h = absurd (omega arith)
+some-open (suc k) h = refl
+
 none-silent : (k : ℕ) → any isSilent (replicate k newRow) ≡ false
 unfolding any isSilent isSilentStatus newRow
 none-silent zero = refl
 none-silent (suc k) = none-silent k
 
-module _ (n : ℕ) (p : Picture) (h : isOk (p .state) ≡ true) (s : 3 ≤ p .size) where
+module _ (n : ℕ) (p : Picture) where
   rows : List Row
   rows = replicate (n - 1) newRow
 
+  -- in OK: no OK is given and nobody is waited for
   no-wait : waits (rescanned rows p) ≡ false
   unfolding waits rescanned isOk rows
   no-wait = ap (λ (b : Bool). not (any isOpen rows) && b && true) (none-silent (n - 1)) ∙ ap (λ (b : Bool). b && true) (and-none (not (any isOpen rows)))
-
-  listed : List (List Pair)
-  listed = packed (length (listedPairs p)) ((p .size - 1) / 2) (listedPairs p)
-
-  rescan-told : told acrossRows p (rescanned rows p) ≡ map INVALID listed
-  unfolding told toldBy rescanned tell isOk listed
-  rescan-told = ap (λ (b : Bool). cond (b && true) (map INVALID listed) []) h
 
   rescan-ends : endOrders (rescanned rows p) ≡ []
   unfolding endOrders okOrder becomesOk settled withState waitOrder rescanned isNotOk
   rescan-ends = cond-false _ [] no-wait
 
-  rescan-orders : ordersOf p (rescan n p) ≡ map ASK (upFrom 1 (n - 1)) ++ map INVALID listed
-  unfolding ordersOf rescan rows
-  rescan-orders =
+  rescan-picture : pictureOf (rescan n p) ≡ begun Ok n p
+  unfolding pictureOf rescan rescanned ended settled withState withDelay becomesOk isNotOk rows newRow
+  rescan-picture = ap (λ (b : Bool). withDelay b (rescanned rows p)) no-wait
+
+  listed : List (List Pair)
+  listed = packed (length (listedPairs p)) ((p .size - 1) / 2) (listedPairs p)
+
+  rescan-orders : isOk (p .state) ≡ true → ordersOf p (rescan n p) ≡ map ASK (upFrom 1 (n - 1)) ++ map INVALID listed
+  unfolding ordersOf rescan rescanned rows told toldBy tell isOk listed
+  rescan-orders h =
       ap (λ (os : List Order). asks isOpen 1 rows ++ told acrossRows p (rescanned rows p) ++ [] ++ os) rescan-ends
       ∙ append-nil (asks isOpen 1 rows ++ told acrossRows p (rescanned rows p) ++ [])
       ∙ append-nil (asks isOpen 1 rows ++ told acrossRows p (rescanned rows p))
-      ∙ (λ i. asks-new 1 (n - 1) i ++ rescan-told i)
+      ∙ (λ i. asks-new 1 (n - 1) i ++ cond (h i && true) (map INVALID listed) [])
 
-  rescan-picture : pictureOf (rescan n p) ≡ rescanned rows p
-  unfolding pictureOf rescan rescanned ended settled withState withDelay becomesOk isNotOk rows
-  rescan-picture = ap (λ (b : Bool). withDelay b (rescanned rows p)) no-wait
-
-  keeps : KeepsOk n p (taken (pictureOf (rescan n p)) (ordersOf p (rescan n p)))
-  unfolding rescanned rows newRow listed listedPairs
-  keeps =
+  keeps : isOk (p .state) ≡ true → 3 ≤ p .size → KeepsOk n p (concluded p (change (rescan n p)))
+  unfolding concluded listed listedPairs
+  keeps h s =
       record {
         told = listed;
-        outcome = (λ i. taken (rescan-picture i) (rescan-orders i));
+        outcome = (λ i. taken (rescan-picture i) (rescan-orders h i));
         inListingOrder = packed-all (length (listedPairs p)) ((p .size - 1) / 2) (listedPairs p) (omega arith) (omega arith);
         packed = packed-full (length (listedPairs p)) ((p .size - 1) / 2) (listedPairs p) (omega arith);
       }
 
--- the event is an NCE that names n positions
-abbrev IsNce : ℕ → Event → Type 0
-IsNce n (START m) = ⊥
-IsNce n (NCE m) = m ≡ n
-IsNce n SHUTDOWN = ⊥
-IsNce n (ANSWER c x a ps) = ⊥
-IsNce n (NONE c x) = ⊥
-IsNce n (DELAY c) = ⊥
+-- a START, and an NCE in NOTOK: where somebody is asked a question is open, and nothing ends yet
+module _ (first : List Order) (n : ℕ) (p : Picture) where
+  untold : begin first n p .first ++ told (begin first n p .packing) p (begin first n p .picture) ++ begin first n p .set ≡ first ++ map ASK (upFrom 1 (n - 1))
+  unfolding begin scan scanned isOk
+  untold =
+      append-nil _
+      ∙ (λ i. first ++ asks-new 1 (n - 1) i ++ told-none rowsSeparately p (scanned (replicate (n - 1) newRow) p) refl i)
+      ∙ append-nil (first ++ map ASK (upFrom 1 (n - 1)))
 
-abbrev SomeNce : ℕ → Option Event → Type 0
-SomeNce n none = ⊥
-SomeNce n (some e) = IsNce n e
+  -- the picture by whether a question is open
+  left-with : Bool → Picture
+  left-with b =
+      withDelay (isOk (cond (not b) Ok NotOk) && not b && any isSilent (replicate (n - 1) newRow) && true)
+      (withState (cond (not b) Ok NotOk) (scanned (replicate (n - 1) newRow) p))
 
-module _ (n : ℕ) (p : Picture) (h : isOk (p .state) ≡ true) (s : 3 ≤ p .size) where
-  keeps-ways : Ways p (λ (e : Event) (c : Change). IsNce n e → KeepsOk n p (taken (pictureOf c) (ordersOf p c)))
-  keeps-ways =
-      record {
-        starts = λ m l e. absurd e;
-        rescans = λ m l i e. clash h i;
-        rescansInOk = λ m l i e. subst (λ (k : ℕ). KeepsOk n p (taken (pictureOf (rescan k p)) (ordersOf p (rescan k p)))) (sym e) (keeps n p h s);
-        shuts = λ e. absurd e;
-        silences = λ c x i o e. absurd e;
-        delays = λ c d e. absurd e;
-        bars = λ c x a ps i o z e. absurd e;
-        ignores = λ c x a ps i o counts k z e. absurd e;
-        restarts = λ c x a ps i o counts b l e. absurd e;
-        keeps = λ c x a ps i o k e. absurd e;
-      }
+  begun-picture : {b : Bool} → any isOpen (replicate (n - 1) newRow) ≡ b → pictureOf (begin first n p) ≡ left-with b
+  unfolding pictureOf begin scan scanned ended settled withState becomesOk waits isNotOk left-with
+  begun-picture h = ap left-with h
 
-  record-keeps : (r : Record) → accepted p r ≡ some (NCE n) → KeepsOk n p (offered p r)
-  unfolding accepted ifTaken
-  record-keeps r e = go (offered-cases p r) (subst (SomeNce n) (sym e) refl)
-    where
-      go : {o : Outcome} → Offered p r o → SomeNce n (ifTaken o (decode (r .bytes))) → KeepsOk n p o
-      go was-refused k = absurd k
-      go (was-taken {c} e d m t q) k = every-taken p _ keeps-ways e c q (subst (SomeNce n) d k)
+  begun-orders : {os : List Order} → endOrders (begin first n p .picture) ≡ os → ordersOf p (begin first n p) ≡ first ++ map ASK (upFrom 1 (n - 1)) ++ os
+  unfolding ordersOf
+  begun-orders h = (λ i. untold i ++ h i)
 
-pub ringChange : (l : ℕ) (rs : List Record) → RingChange l rs
-unfolding isOk
-ringChange l rs =
-    record { keepsOk = λ k n h s e. record-keeps n (pictureAt l rs k) (ap isOk s) (let z = running-at l rs k .sound .size in omega arith) (recordAt rs k) e }
+  open-rows : 2 ≤ n → any isOpen (begin first n p .picture .rows) ≡ true
+  unfolding begin scan scanned
+  open-rows h = some-open (n - 1) (omega arith)
+
+  others : 2 ≤ n → concluded p (change (begin first n p)) ≡ taken (begun NotOk n p) (first ++ map ASK (upFrom 1 (n - 1)))
+  unfolding concluded left-with withState withDelay scanned isOk newRow endOrders begin scan
+  others h =
+      (λ i. taken (begun-picture (some-open (n - 1) (omega arith)) i)
+      ((begun-orders (λ j. open-no-ok (begin first n p .picture) (open-rows h) j ++ open-no-wait (begin first n p .picture) (open-rows h) j)
+      ∙ append-nil (first ++ map ASK (upFrom 1 (n - 1)))) i))
+
+begun-alone : (first : List Order) (p : Picture) → concluded p (change (begin first 1 p)) ≡ taken (begun Ok 1 p) (first ++ OK ∷ [])
+unfolding concluded left-with withState withDelay scanned isOk isNotOk newRow begin scan any endOrders okOrder becomesOk waitOrder waits settled upFrom
+begun-alone first p =
+    (λ i. taken (begun-picture first 1 p refl i) ((begun-orders first 1 p refl ∙ ap (λ (os : List Order). os ++ OK ∷ []) (append-nil first)) i))
+
+begins : (first : List Order) (n : ℕ) (p : Picture) → Begins first n p (concluded p (change (begin first n p)))
+begins first n p =
+    record {
+      alone = λ h. subst (λ (k : ℕ). concluded p (change (begin first k p)) ≡ taken (begun Ok k p) (first ++ OK ∷ [])) (sym h) (begun-alone first p);
+      others = others first n p;
+    }
+
+-- the records that bring them
+module _ (p : Picture) (r : Record) (e : Event) (d : decode (r .bytes) ≡ some e) (m : minRoom ≤ r .room) (l : p .pass < maxPass) where
+  brought : takes (p .state) e ≡ true → (c : Change) → respond p e ≡ refuseIf (leb maxPass (p .pass)) 9 (change c) → offered p r ≡ concluded p (change c)
+  unfolding step onDecoded onEvent
+  brought t c q =
+      ap (concluded p)
+      (refuseIf-false _ _ (le-ltb (r .room) minRoom m) ∙ ap (onDecoded p) d ∙ refuseIf-false _ _ (ap not t) ∙ q ∙ refuseIf-false _ _ (lt-leb maxPass (p .pass) l))
+
+pub ringChange : (l : ℕ) (rs : List Record) (r : Record) → RingChange (after (fresh l) rs) r
+unfolding isOk takes respond networkChange
+ringChange l rs r =
+    record {
+      starts = λ n s d m t. subst (Begins [] n p) (sym (brought p r (START n) d m t (ap (λ (z : State). takes z (START n)) s) (begin [] n p) refl)) (begins [] n p);
+      inNotOk = λ n s d m t. subst (Begins (NOTOK ∷ []) n p)
+          (sym (brought p r (NCE n) d m t (ap (λ (z : State). takes z (NCE n)) s) (begin (NOTOK ∷ []) n p)
+          (ap (λ (z : State). refuseIf (leb maxPass (p .pass)) 9 (change (cond (isOk z) (rescan n p) (begin (NOTOK ∷ []) n p)))) s))) (begins (NOTOK ∷ []) n p);
+      inOk = λ n s d m t. subst (KeepsOk n p)
+          (sym (brought p r (NCE n) d m t (ap (λ (z : State). takes z (NCE n)) s) (rescan n p)
+          (ap (λ (z : State). refuseIf (leb maxPass (p .pass)) 9 (change (cond (isOk z) (rescan n p) (begin (NOTOK ∷ []) n p)))) s))) (keeps n p (ap isOk s) size);
+    }
+  where
+    p : Picture
+    p = after (fresh l) rs
+
+    size : 3 ≤ p .size
+    size = let h = along Running running-taken (fresh l) [] rs (running-fresh l) .sound .size in omega arith

@@ -336,11 +336,11 @@ wait-size p = go (waits p) (any (λ (r : Row). isSilent r && ltb (r .silences) m
     go true false = omega arith
     go false c = omega arith
 
-open-no-ok : (p : Picture) → any isOpen (p .rows) ≡ true → okOrder p ≡ []
+pub open-no-ok : (p : Picture) → any isOpen (p .rows) ≡ true → okOrder p ≡ []
 unfolding okOrder becomesOk
 open-no-ok p h = cond-false (OK ∷ []) [] (ap (λ (b : Bool). isNotOk (p .state) && not b) h ∙ and-none (isNotOk (p .state)))
 
-open-no-wait : (p : Picture) → any isOpen (p .rows) ≡ true → waitOrder (settled p) ≡ []
+pub open-no-wait : (p : Picture) → any isOpen (p .rows) ≡ true → waitOrder (settled p) ≡ []
 unfolding waitOrder waits settled withState
 open-no-wait p h =
     cond-false _ []
@@ -513,8 +513,8 @@ module _ (p : Picture) (h : Sound p) where
   size-ways =
       record {
         starts = λ n l f. scan-size p [] _ (omega arith) (rw length-replicate (omega (arith, f .0, f .1)));
-        rescans = λ n l i f. scan-size p (NOTOK ∷ []) _ (omega arith) (rw length-replicate (omega (arith, f .0, f .1)));
-        rescansInOk = λ n l i f. rescan-size p h n (f .0) (f .1);
+        ringChanges = λ n l i f. scan-size p (NOTOK ∷ []) _ (omega arith) (rw length-replicate (omega (arith, f .0, f .1)));
+        ringChangesInOk = λ n l i f. rescan-size p h n (f .0) (f .1);
         shuts = λ f. rows-size p _ refl refl (omega arith) (omega (arith, changes-gone lost (p .rows), changes-gone gained (p .rows)));
         silences = λ c x s o f. rows-size p _ refl refl (omega arith) (onto c x s _ (put-changes _ _ (seat-proper c x s) (omega (arith, ap length (silenced-pairs (seatAt (p .rows) x .row))))));
         delays = λ c d f. delay-size p (h .rows .few);

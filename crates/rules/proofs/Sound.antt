@@ -203,8 +203,8 @@ module _ (p : Picture) (h : Sound p) where
   sound-ways =
       record {
         starts = λ n l f. record { rows = new-rows n (f .0) (f .1); pass = l; size = h .size };
-        rescans = λ n l i f. record { rows = new-rows n (f .0) (f .1); pass = l; size = h .size };
-        rescansInOk = λ n l i f. record { rows = new-rows n (f .0) (f .1); pass = l; size = h .size };
+        ringChanges = λ n l i f. record { rows = new-rows n (f .0) (f .1); pass = l; size = h .size };
+        ringChangesInOk = λ n l i f. record { rows = new-rows n (f .0) (f .1); pass = l; size = h .size };
         shuts = λ f. record { rows = no-rows; pass = h .pass; size = h .size };
         silences = λ c x s o f. record { rows = sound-put c x s _ (sheds-silenced _); pass = h .pass; size = h .size };
         delays = λ c d f. record { rows = sound-each _ _ (h .rows) (each-map Sheds asked sheds-asked (p .rows)); pass = h .pass; size = h .size };

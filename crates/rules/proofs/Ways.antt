@@ -27,6 +27,15 @@ abbrev Always : (Change → Type 0) → Response → Type 0
 Always P (refuse n) = Unit {0}
 Always P (change c) = P c
 
+-- a refusal whose test is decided
+pub refuseIf-true : {b : Bool} (n : ℕ) (r : Response) → b ≡ true → refuseIf b n r ≡ refuse n
+unfolding refuseIf
+refuseIf-true n r h = ap (λ (t : Bool). refuseIf t n r) h
+
+pub refuseIf-false : {b : Bool} (n : ℕ) (r : Response) → b ≡ false → refuseIf b n r ≡ r
+unfolding refuseIf
+refuseIf-false n r h = ap (λ (t : Bool). refuseIf t n r) h
+
 always-refuseIf : (P : Change → Type 0) (b : Bool) (n : ℕ) (r : Response) → (b ≡ false → Always P r) → Always P (refuseIf b n r)
 unfolding refuseIf
 always-refuseIf P true n r f = tt
@@ -65,8 +74,8 @@ pub record Below (counts : Row → Bool) (s : Seat) : Type 0 where
 -- one field for each way in which an event is taken
 pub record Ways (p : Picture) (P : Event → Change → Type 0) : Type 0 where
   pub starts : (n : ℕ) → p .pass < maxPass → P (START n) (begin [] n p)
-  pub rescans : (n : ℕ) → p .pass < maxPass → isOk (p .state) ≡ false → P (NCE n) (begin (NOTOK ∷ []) n p)
-  pub rescansInOk : (n : ℕ) → p .pass < maxPass → isOk (p .state) ≡ true → P (NCE n) (rescan n p)
+  pub ringChanges : (n : ℕ) → p .pass < maxPass → isOk (p .state) ≡ false → P (NCE n) (begin (NOTOK ∷ []) n p)
+  pub ringChangesInOk : (n : ℕ) → p .pass < maxPass → isOk (p .state) ≡ true → P (NCE n) (rescan n p)
   pub shuts : P SHUTDOWN (shutDown p)
   pub silences : (c x : ℕ) → Seated p c x → isOpen (seatAt (p .rows) x .row) ≡ true
       → P (NONE c x) (changeRows (put (seatAt (p .rows) x) (silenced (seatAt (p .rows) x .row))) p)
@@ -148,8 +157,8 @@ module _ (p : Picture) (P : Event → Change → Type 0) (w : Ways p P) where
   in-every-way (NCE n) =
       always-refuseIf (P (NCE n)) _ _ _
       (λ h. on-cond (P (NCE n)) (isOk (p .state)) (rescan n p) (begin (NOTOK ∷ []) n p)
-      (λ e. w .rescansInOk n (room-for-pass (p .pass) h) e)
-      (λ e. w .rescans n (room-for-pass (p .pass) h) e))
+      (λ e. w .ringChangesInOk n (room-for-pass (p .pass) h) e)
+      (λ e. w .ringChanges n (room-for-pass (p .pass) h) e))
   in-every-way SHUTDOWN = w .shuts
   in-every-way (ANSWER c x a ps) =
       always-refuseIf (P (ANSWER c x a ps)) _ _ _

@@ -210,20 +210,52 @@ pub data Full (most : ℕ) : List (List Pair) → Type 0 where
   last-order : {ps : List Pair} → 1 ≤ length ps → length ps ≤ most → Full most (ps ∷ [])
   full-order : {ps : List Pair} {rest : List (List Pair)} → 1 ≤ length ps → length ps ≡ most → Full most rest → Full most (ps ∷ rest)
 
+-- a row that is asked and counts nothing yet, and the picture that a START or NCE naming N positions leaves
+abbrev pub asked : Row
+asked = record { status = WAITING; bad = 0; silences = 0 }
+
+abbrev pub begun : State → ℕ → Picture → Picture
+begun s n p = record { state = s; pass = suc (p .pass); size = p .size; delay = false; rows = replicate (n - 1) asked }
+
+-- START: "N set, counters zero, all rows WAITING, ASK each, state NOTOK, pass +1." NCE in NOTOK: "the same, with the order NOTOK first".
+-- Where there is nobody to be asked OK comes at once.
+pub record Begins (first : List Order) (n : ℕ) (p : Picture) (o : Outcome) : Type 0 where
+  pub alone : n ≡ 1 → o ≡ taken (begun Ok n p) (first ++ OK ∷ [])
+  pub others : 2 ≤ n → o ≡ taken (begun NotOk n p) (first ++ map ASK (upFrom 1 (n - 1)))
+
 -- Ticket 1: "an NCE in OK keeps OK and sends no NOTOK: every pair listed so far is told INVALID, packed across rows in listing order,
 -- rows are emptied and asked .. Pass and counters move as before, and a running delay ends." It is taken, with an ASK for each of the
 -- positions 1 to N−1 and then INVALIDs alone. These hold the pairs of the listing, one behind the other, (L−1)/2 in an order.
 pub record KeepsOk (n : ℕ) (p : Picture) (o : Outcome) : Type 0 where
   pub told : List (List Pair)
-  pub outcome : o ≡ taken
-      (record { state = Ok; pass = suc (p .pass); size = p .size; delay = false; rows = replicate (n - 1) (record { status = WAITING; bad = 0; silences = 0 }) })
-      (map ASK (upFrom 1 (n - 1)) ++ map INVALID told)
+  pub outcome : o ≡ taken (begun Ok n p) (map ASK (upFrom 1 (n - 1)) ++ map INVALID told)
   pub inListingOrder : collect (λ (ps : List Pair). ps) told ≡ map (λ (e : Entry). e .pair) (listing p)
   pub packed : Full ((p .size - 1) / 2) told
 
-pub record RingChange (l : ℕ) (rs : List Record) : Type 0 where
-  pub keepsOk : (k n : ℕ) → k < length rs → pictureAt l rs k .state ≡ Ok → accepted (pictureAt l rs k) (recordAt rs k) ≡ some (NCE n)
-      → KeepsOk n (pictureAt l rs k) (offered (pictureAt l rs k) (recordAt rs k))
+-- Every START in OFF and every NCE, with room and a pass left, order for order: of a picture that some list of records leaves.
+pub record RingChange (p : Picture) (r : Record) : Type 0 where
+  pub starts : (n : ℕ) → p .state ≡ Off → decode (r .bytes) ≡ some (START n) → 8_192 ≤ r .room → p .pass < 4_294_967_295
+      → Begins [] n p (offered p r)
+  pub inNotOk : (n : ℕ) → p .state ≡ NotOk → decode (r .bytes) ≡ some (NCE n) → 8_192 ≤ r .room → p .pass < 4_294_967_295
+      → Begins (NOTOK ∷ []) n p (offered p r)
+  pub inOk : (n : ℕ) → p .state ≡ Ok → decode (r .bytes) ≡ some (NCE n) → 8_192 ≤ r .room → p .pass < 4_294_967_295
+      → KeepsOk n p (offered p r)
+
+-- "Records are checked in the order 1 to 9": 1 and 2 are looked at before the picture, and 5 before the position. The kinds 4 to 6 carry
+-- a pass that is not the current one.
+abbrev pub OfAnotherPass : Event → ℕ → Type 0
+OfAnotherPass (START n) m = ⊥
+OfAnotherPass (NCE n) m = ⊥
+OfAnotherPass SHUTDOWN m = ⊥
+OfAnotherPass (ANSWER c x a ps) m = c ≢ m
+OfAnotherPass (NONE c x) m = c ≢ m
+OfAnotherPass (DELAY c) m = c ≢ m
+
+pub record Checks (p : Picture) (r : Record) : Type 0 where
+  pub room : r .room < 8_192 → offered p r ≡ refused 1
+  pub malformed : 8_192 ≤ r .room → decode (r .bytes) ≡ none → offered p r ≡ refused 2
+  pub anotherPass : 8_192 ≤ r .room → (e : Event) → decode (r .bytes) ≡ some e → takes (p .state) e ≡ true → OfAnotherPass e (p .pass)
+      → offered p r ≡ refused 5
 
 -- a number that is used with a block: a pair of the other rows has it, or one of this answer
 abbrev pub isUsed : (elsewhere announced : List Pair) → (block number : ℕ) → Bool

@@ -3,11 +3,11 @@ use Prim.Native.Nat.{ℕ, _^_, _<_, _≤_}
 use mathlib.Core.Path.{_≡_}
 use mathlib.Core.List.{List}
 use lib.ListN.{length}
-use Rattle.rules.specs.Picture.{Off, NotOk, Ok, Pair, Picture}
+use Rattle.rules.specs.Picture.{Off, NotOk, Ok, Pair, Picture, fresh}
 use Rattle.rules.specs.Event.{Event}
-use Rattle.rules.specs.Run.{Record}
+use Rattle.rules.specs.Run.{Record, after}
 use Rattle.rules.specs.Telegram.{Joining}
-use Rattle.rules.specs.Claims.{Demand3, RingChange, Bounds, Fits, Refusal, Carried, SetsAimed, Unbarred, EmptyInOff, FreeNumber, Decodes, DecodesOnly, StatesByKinds, Values, Numbers, RoundTrip, Cuts, Lengths}
+use Rattle.rules.specs.Claims.{Demand3, RingChange, Checks, Bounds, Fits, Refusal, Carried, SetsAimed, Unbarred, EmptyInOff, FreeNumber, Decodes, DecodesOnly, StatesByKinds, Values, Numbers, RoundTrip, Cuts, Lengths}
 use Rattle.rules.specs.Table.{obtained, expected}
 use Rattle.rules.specs.Edges.{edges as edgeTable}
 use Rattle.rules.specs.Cases.{cases as caseTable}
@@ -18,12 +18,13 @@ use Rattle.rules.specs.Tight.{atStart, atChange, atChangeInOk, LongestWa
 pub record Promises : Type 0 where
   -- of every list of records from a fresh picture for L; a picture for an L that is not 12 to 45 is one for 12
   pub demand3 : (l : ℕ) (rs : List Record) → Demand3 l rs
-  pub ringChange : (l : ℕ) (rs : List Record) → RingChange l rs
+  pub ringChange : (l : ℕ) (rs : List Record) (r : Record) → RingChange (after (fresh l) rs) r
   pub bounds : (l : ℕ) (rs : List Record) → Bounds l rs
   pub fits : (l : ℕ) (rs : List Record) → Fits l rs
   pub unbarred : (l : ℕ) (rs : List Record) → Unbarred l rs
   pub emptyInOff : (l : ℕ) (rs : List Record) → EmptyInOff l rs
   -- of every picture and every record
+  pub checks : (p : Picture) (r : Record) → Checks p r
   pub refusal : (p : Picture) (r : Record) → Refusal p r
   pub carried : (p : Picture) (r : Record) → Carried p r
   pub setsAimed : (p : Picture) (r : Record) → SetsAimed p r
@@ -48,6 +49,6 @@ pub record Promises : Type 0 where
   pub cases : obtained caseTable ≡ expected caseTable
   pub corners : obtained cornerTable ≡ expected cornerTable
   pub ringChanges : obtained ringChangeTable ≡ expected ringChangeTable
-  pub longestAtStart : LongestWay Off atStart 1
-  pub longestAtChange : LongestWay NotOk atChange 2
-  pub longestAtChangeInOk : LongestWay Ok atChangeInOk 3
+  pub longestAtStart : LongestWay Off NotOk atStart 1
+  pub longestAtChange : LongestWay NotOk NotOk atChange 2
+  pub longestAtChangeInOk : LongestWay Ok Ok atChangeInOk 3

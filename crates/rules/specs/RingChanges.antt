@@ -1,7 +1,9 @@
 -- Ring changes in OK (ticket 1) as a table: the orders to the byte, and what is left.
 use mathlib.Core.Bool.{true, false}
 use mathlib.Core.List.{List, [], _∷_, _++_}
-use Rattle.rules.specs.Picture.{Ok, WAITING, LISTED, SILENT}
+use Prim.Native.Nat.{ℕ}
+use Rattle.laws.specs.Lists.{collect, upFrom}
+use Rattle.rules.specs.Picture.{NotOk, Ok, WAITING, LISTED, SILENT}
 use Rattle.rules.specs.Run.{Record}
 use Rattle.rules.specs.Listing.{notFound, found}
 use Rattle.rules.specs.Table.{hex, withRoom, gives, noOrders, refusal, entry, records, recordsFrom, pictureAfter, listingAfter, lookUpAfter, results, picture, listing, lookUp, Edge, edge}
@@ -28,6 +30,20 @@ delayed =
     ∷ withRoom 13 0x4D45_04_00000001_01_0101_01_2201
     ∷ withRoom 8 0x4D45_05_00000001_02
     ∷ withRoom 8 0x4D45_02_00000000_03
+    ∷ []
+
+-- two rows IGNORED for 0102, one open, one SILENT: a scan in trouble, in NOTOK
+abbrev pub troubled : List Record
+troubled =
+    withRoom 8 0x4D45_01_00000000_05
+    ∷ withRoom 11 0x4D45_04_00000001_01_0102_00
+    ∷ withRoom 11 0x4D45_04_00000001_02_0102_00
+    ∷ withRoom 11 0x4D45_04_00000002_01_0102_00
+    ∷ withRoom 11 0x4D45_04_00000002_02_0102_00
+    ∷ withRoom 11 0x4D45_04_00000003_01_0102_00
+    ∷ withRoom 11 0x4D45_04_00000003_02_0102_00
+    ∷ withRoom 8 0x4D45_05_00000003_04
+    ∷ withRoom 8 0x4D45_02_00000000_05
     ∷ []
 
 unfoldable pub ringChanges : List Edge
@@ -269,5 +285,56 @@ ringChanges =
     ∷ gives 10 0x4D4F_05_FFFFFFFF_01_2201
     ∷ refusal 9
     ∷ gives 10 0x4D4F_06_FFFFFFFF_01_2201
+    ∷ []))
+    -- "In NOTOK nothing changes": NOTOK first, all rows asked and counting nothing, IGNORED and SILENT ones too; barred addresses are
+    -- forgotten; 64 positions
+    ∷ edge
+    (records 12 (troubled ++ withRoom 13 0x4D45_04_00000004_02_0102_01_2201 ∷ []))
+    (results
+    (gives 32 0x4D4F_01_00000001_01_4D4F_01_00000001_02_4D4F_01_00000001_03_4D4F_01_00000001_04
+    ∷ noOrders
+    ∷ gives 39 0x4D4F_04_00000002_4D4F_01_00000002_01_4D4F_01_00000002_02_4D4F_01_00000002_03_4D4F_01_00000002_04
+    ∷ noOrders
+    ∷ gives 39 0x4D4F_04_00000003_4D4F_01_00000003_01_4D4F_01_00000003_02_4D4F_01_00000003_03_4D4F_01_00000003_04
+    ∷ noOrders
+    ∷ noOrders
+    ∷ noOrders
+    ∷ gives 39 0x4D4F_04_00000004_4D4F_01_00000004_01_4D4F_01_00000004_02_4D4F_01_00000004_03_4D4F_01_00000004_04
+    ∷ noOrders
+    ∷ []))
+    ∷ edge
+    (pictureAfter 12 troubled)
+    (picture (record { state = NotOk; pass = 4; size = 12; delay = false; rows = unit WAITING 0 0 ∷ unit WAITING 0 0 ∷ unit WAITING 0 0 ∷ unit WAITING 0 0 ∷ [] }))
+    ∷ edge
+    (records 12 (withRoom 8 0x4D45_01_00000000_02 ∷ withRoom 8 0x4D45_02_00000000_40 ∷ []))
+    (results
+    (gives 8 0x4D4F_01_00000001_01
+    ∷ record { number = 0; length = 511; bytes = hex 7 0x4D4F_04_00000002 ++ collect (λ (x : ℕ). hex 7 0x4D4F_01_00000002 ++ x ∷ []) (upFrom 1 63) }
+    ∷ []))
+    -- a pass that is still to come is not the current one; the room is looked at whatever the kind
+    ∷ edge
+    (records 12
+    (withRoom 8 0x4D45_01_00000000_02
+    ∷ withRoom 8 0x4D45_05_00000002_01
+    ∷ withRoom 11 0x4D45_04_00000002_01_0101_00
+    ∷ record { bytes = hex 11 0x4D45_04_00000001_01_0101_00; room = 8_191 }
+    ∷ withRoom 8 0x4D45_05_00000001_01
+    ∷ withRoom 8 0x4D45_06_00000002_00
+    ∷ record { bytes = hex 8 0x4D45_06_00000001_00; room = 8_191 }
+    ∷ record { bytes = hex 8 0x4D45_02_00000000_02; room = 8_191 }
+    ∷ record { bytes = hex 8 0x4D45_03_00000000_00; room = 8_191 }
+    ∷ withRoom 8 0x4D45_06_00000001_00
+    ∷ []))
+    (results
+    (gives 8 0x4D4F_01_00000001_01
+    ∷ refusal 5
+    ∷ refusal 5
+    ∷ refusal 1
+    ∷ gives 14 0x4D4F_03_00000001_4D4F_07_00000001
+    ∷ refusal 5
+    ∷ refusal 1
+    ∷ refusal 1
+    ∷ refusal 1
+    ∷ gives 8 0x4D4F_01_00000001_01
     ∷ []))
     ∷ []

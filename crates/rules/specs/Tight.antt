@@ -6,9 +6,9 @@ use mathlib.Core.List.{List, [], _∷_, _++_}
 use lib.ListN.{replicate}
 use Rattle.laws.specs.Lists.{any, collect}
 use Rattle.rules.specs.House.{minRoom}
-use Rattle.rules.specs.Picture.{State, NotOk, Ok, isOk, isOpen, openAt}
+use Rattle.rules.specs.Picture.{State, NotOk, Ok, isOpen, openAt}
 use Rattle.rules.specs.Run.{Record}
-use Rattle.rules.specs.Claims.{wayState, pictureAt, repliesBetween, bound}
+use Rattle.rules.specs.Claims.{pictureAt, repliesBetween, bound}
 use Rattle.rules.specs.Table.{hex, withRoom}
 
 -- 16 pairs that are never renumbered, and an address that is out of range, both from position 1 in a pass below 256
@@ -38,11 +38,11 @@ atChange = withRoom 8 0x4D45_01_00000000_02 ∷ withRoom 8 0x4D45_02_00000000_02
 unfoldable pub atChangeInOk : List Record
 atChangeInOk = withRoom 8 0x4D45_01_00000000_02 ∷ withRoom 13 0x4D45_04_00000001_01_0101_01_2201 ∷ withRoom 8 0x4D45_02_00000000_02 ∷ lies 2
 
--- The way begins at place i, behind a START or NCE that came in a state. After 48 answers the state is still the one of its first pass,
--- and the 49th restarts; the 147th brings OK with no question open, the 146th does not.
-pub record LongestWay (came : State) (rs : List Record) (i : ℕ) : Type 0 where
+-- The way begins at place i, behind a START or NCE that came in a state and left one; 48 answers leave that one, and the 49th restarts.
+-- The 147th brings OK with no question open, the 146th does not.
+pub record LongestWay (came left : State) (rs : List Record) (i : ℕ) : Type 0 where
   pub begins : pictureAt 12 rs (i - 1) .state ≡ came
-  pub firstPass : pictureAt 12 rs (i + 48) .state ≡ wayState (isOk came) true
+  pub firstPass : pictureAt 12 rs (i + 48) .state ≡ left
   pub restarts : pictureAt 12 rs (i + 49) .state ≡ NotOk
   pub atBound : repliesBetween 12 rs i (i + 147) ≡ bound 2
   pub notBefore : openAt (pictureAt 12 rs (i + 146)) 1 ≡ true

@@ -67,15 +67,15 @@ enum lathepetal_number {
     LATHEPETAL_TELEGRAM_MALFORMED = 14,  /* below 6 bytes, TelLen wrong or above L, TelID 1 to 3 with TelLen 0 */
     LATHEPETAL_TEL_ID_PASSED_OVER = 15,  /* TelID 4 or above */
     LATHEPETAL_OUT_OF_SEQUENCE = 16,     /* TelID 2 or 3 with none open, other MsgID or counter; TelID 1 counter not 0; total above the longest message */
-    LATHEPETAL_NOT_LISTED = 17,          /* look-up: not listed */
+    LATHEPETAL_NOT_LISTED = 17,          /* look-up: not listed, or not yet again after an NCE in OK */
     LATHEPETAL_NOT_OK = 18               /* look-up: the state is not OK */
 };
 
 /* The state of a picture. */
 enum lathepetal_state {
     LATHEPETAL_OFF = 0,   /* the ring does not run */
-    LATHEPETAL_NOTOK = 1, /* the ring is being scanned */
-    LATHEPETAL_OK = 2     /* the ring is registered */
+    LATHEPETAL_NOTOK = 1, /* the ring is being scanned, and look-ups are refused 18 */
+    LATHEPETAL_OK = 2     /* look-ups are answered; after an NCE in OK the units are asked again meanwhile */
 };
 
 /* The status of an entry. */
@@ -171,7 +171,9 @@ struct lathepetal_fresh_outcome lathepetal_fresh(size_t l);
  * address (2), count (1), count pairs), 5 NONE (x = position), 6 DELAY (x = 0). Kinds 1 to 3 have pass 0; the others carry the pass of
  * the order that they answer, an unasked announcement the current one.
  * An order: 4D 4F, kind (1), pass (4). Kinds: 1 ASK + position; 2 SET + position, address (2), block, old, new; 3 OK; 4 NOTOK; 5 NEW and
- * 6 INVALID + count + pairs; 7 WAIT SHORT; 8 WAIT LONG. */
+ * 6 INVALID + count + pairs; 7 WAIT SHORT; 8 WAIT LONG.
+ * An NCE in OK keeps OK: every pair that was listed is told INVALID, and the units are asked anew. No order says when all have answered;
+ * it is so where no entry is WAITING or SETTING. */
 struct lathepetal_record_outcome lathepetal_record(struct lathepetal_picture picture, const uint8_t *bytes, size_t length, uint8_t *out,
                                                    size_t room);
 

@@ -15,9 +15,29 @@ const WRITES_BEHIND_THE_ORDERS: u8 = 3;
 const CHANGES_BESIDE_A_REFUSAL: u8 = 4;
 const LISTS_BEHIND_THE_COUNT: u8 = 5;
 const PASSES_THE_LAST_PASS: u8 = 6;
-const LEAVES_OK_AT_A_RING_CHANGE: u8 = 7;
+const SAYS_NOTOK_AT_A_RING_CHANGE: u8 = 7;
 const FORGETS_A_PAIR_AT_A_RING_CHANGE: u8 = 8;
 const TELLS_ROW_BY_ROW_AT_A_RING_CHANGE: u8 = 9;
+
+/// Mark, kind and pass of an order.
+fn head(kind: u8, pass: u32) -> Vec<u8> {
+    [&wire::ORDER_MARK[..], &[kind], &pass.to_be_bytes()].concat()
+}
+
+/// INVALID for the pairs of a picture, rows separately.
+fn row_by_row(met: &Shown, pass: u32) -> Vec<u8> {
+    let mut told = Vec::new();
+    for (_, row) in met.rows() {
+        let pairs: Vec<[u8; 2]> =
+            row.blocks.iter().zip(&row.numbers).take(row.count.into()).map(|(block, number)| [*block, *number]).collect();
+        for part in pairs.chunks((usize::from(met.size) - 1) / 2) {
+            told.extend(head(wire::INVALID, pass));
+            told.push(part.len() as u8);
+            told.extend(part.concat());
+        }
+    }
+    told
+}
 
 /// The reference with one fault.
 #[derive(Clone, PartialEq)]
@@ -41,12 +61,23 @@ impl<const FAULT: u8> RingBox for Faulty<FAULT> {
             WRITES_BEHIND_THE_ORDERS if length > 40 && out.len() > length => out[length] ^= 1,
             CHANGES_BESIDE_A_REFUSAL if number == refusal::POSITION_IGNORED => self.0.set_pass(pass + 1),
             PASSES_THE_LAST_PASS if number == refusal::NO_PASS_LEFT => return (0, 0),
-            LEAVES_OK_AT_A_RING_CHANGE if in_ok => return (0, length + wire::ORDER_HEAD),
-            FORGETS_A_PAIR_AT_A_RING_CHANGE if in_ok && wire::orders(&out[..length]).any(|order| order[wire::KIND] == wire::INVALID) => {
-                return (0, length - 2);
+            SAYS_NOTOK_AT_A_RING_CHANGE if in_ok => {
+                out.copy_within(..length, wire::ORDER_HEAD);
+                out[..wire::ORDER_HEAD].copy_from_slice(&head(wire::NOTOK, pass));
+                return (0, length + wire::ORDER_HEAD);
             }
-            TELLS_ROW_BY_ROW_AT_A_RING_CHANGE if in_ok && met.rows().filter(|(_, row)| row.count > 0).count() > 1 => {
-                return (0, length + wire::ORDER_HEAD + 1);
+            FORGETS_A_PAIR_AT_A_RING_CHANGE if in_ok => {
+                let last = wire::orders(&out[..length]).last().map_or(0, <[u8]>::len);
+                if last > wire::ORDER_HEAD + 3 {
+                    out[length - last + wire::ORDER_HEAD] -= 1;
+                    return (0, length - 2);
+                }
+            }
+            TELLS_ROW_BY_ROW_AT_A_RING_CHANGE if in_ok => {
+                let told = row_by_row(&met, pass);
+                let asked = (wire::ORDER_HEAD + 1) * (usize::from(bytes[wire::X]) - 1);
+                out[asked..asked + told.len()].copy_from_slice(&told);
+                return (0, asked + told.len());
             }
             _ => {}
         }
@@ -192,8 +223,8 @@ fn the_last_pass() {
 
 #[test]
 fn a_ring_change() {
-    is_short(Ringbox::new(), &ring_fault::<LEAVES_OK_AT_A_RING_CHANGE>(), ">", 2);
-    is_short(Ringbox::new(), &ring_fault::<FORGETS_A_PAIR_AT_A_RING_CHANGE>(), ">", 3);
+    is_short(Ringbox::new(), &ring_fault::<SAYS_NOTOK_AT_A_RING_CHANGE>(), ">", 2);
+    is_short(Ringbox::new(), &ring_fault::<FORGETS_A_PAIR_AT_A_RING_CHANGE>(), ">", 4);
     is_short(Ringbox::new(), &ring_fault::<TELLS_ROW_BY_ROW_AT_A_RING_CHANGE>(), ">", 4);
 }
 

@@ -149,8 +149,9 @@ pub data Reaches (l : ℕ) (rs : List Record) (fromOk : Bool) (i e n : ℕ) : Ty
   holdsFewer : repliesBetween l rs i e < bound n
       → ((j : ℕ) → i ≤ j → j ≤ e → Awaits fromOk (pictureAt l rs i .pass) (pictureAt l rs j) (sentAt l rs j)) → Reaches l rs fromOk i e n
 
--- Demand 3, of a whole list of records and any L, for START, NCE in NOTOK and NCE in OK. "After it let only answers and silences be taken" is asked of the records up to
--- place e, so that whatever comes later takes nothing from any START or NCE of the list; e may be the list's end.
+-- Demand 3, of a whole list of records and any L, for START, NCE in NOTOK and NCE in OK. "After it let only answers and silences be
+-- taken" is asked of the records up to place e, so that whatever comes later takes nothing from any START or NCE of the list; e may be
+-- the list's end.
 pub record Demand3 (l : ℕ) (rs : List Record) : Type 0 where
   pub distinct : (k : ℕ) → k ≤ length rs → Distinct (pictureAt l rs k)
   pub reaches : (i e n : ℕ) → i < e → e ≤ length rs → Names (accepted (pictureAt l rs i) (recordAt rs i)) n
@@ -211,11 +212,11 @@ pub data Full (most : ℕ) : List (List Pair) → Type 0 where
   full-order : {ps : List Pair} {rest : List (List Pair)} → 1 ≤ length ps → length ps ≡ most → Full most rest → Full most (ps ∷ rest)
 
 -- a row that is asked and counts nothing yet, and the picture that a START or NCE naming N positions leaves
-abbrev pub asked : Row
-asked = record { status = WAITING; bad = 0; silences = 0 }
+abbrev pub waitingRow : Row
+waitingRow = record { status = WAITING; bad = 0; silences = 0 }
 
 abbrev pub begun : State → ℕ → Picture → Picture
-begun s n p = record { state = s; pass = suc (p .pass); size = p .size; delay = false; rows = replicate (n - 1) asked }
+begun s n p = record { state = s; pass = suc (p .pass); size = p .size; delay = false; rows = replicate (n - 1) waitingRow }
 
 -- START: "N set, counters zero, all rows WAITING, ASK each, state NOTOK, pass +1." NCE in NOTOK: "the same, with the order NOTOK first".
 -- Where there is nobody to be asked OK comes at once.
@@ -241,8 +242,7 @@ pub record RingChange (p : Picture) (r : Record) : Type 0 where
   pub inOk : (n : ℕ) → p .state ≡ Ok → decode (r .bytes) ≡ some (NCE n) → 8_192 ≤ r .room → p .pass < 4_294_967_295
       → KeepsOk n p (offered p r)
 
--- "Records are checked in the order 1 to 9": 1 and 2 are looked at before the picture, and 5 before the position. The kinds 4 to 6 carry
--- a pass that is not the current one.
+-- a record of the kinds 4 to 6 that carries another pass than this one
 abbrev pub OfAnotherPass : Event → ℕ → Type 0
 OfAnotherPass (START n) m = ⊥
 OfAnotherPass (NCE n) m = ⊥
@@ -251,6 +251,7 @@ OfAnotherPass (ANSWER c x a ps) m = c ≢ m
 OfAnotherPass (NONE c x) m = c ≢ m
 OfAnotherPass (DELAY c) m = c ≢ m
 
+-- "Records are checked in the order 1 to 9": whatever the picture is, 1 and 2 are looked at first; and 5 for what the state takes.
 pub record Checks (p : Picture) (r : Record) : Type 0 where
   pub room : r .room < 8_192 → offered p r ≡ refused 1
   pub malformed : 8_192 ≤ r .room → decode (r .bytes) ≡ none → offered p r ≡ refused 2

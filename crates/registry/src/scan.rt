@@ -25,7 +25,6 @@ use ring_state::NOTOK;
 use ring_state::RegistryState;
 use ring_state::STOPPED;
 use ring_tell::asks::Which;
-use wire_orders::Delta;
 use wire_orders::Notice;
 
 // The last pass.
@@ -74,13 +73,12 @@ impl RegistryImage {
         let units = nodes - 1;
         let listed = self.listing();
         let entries = image::new_entries();
-        let asked = ring_tell::asks::write_asks(out, 0, next, Which::Open, units as usize, entries);
-        let told = wire_orders::write_deltas(
+        let told = ring_tell::told::tell_ring_change(
             out,
-            asked,
             next,
-            Delta::Invalid,
             self.size,
+            units as usize,
+            entries,
             &listed.blocks,
             &listed.numbers,
             listed.count,

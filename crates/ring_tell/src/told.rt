@@ -7,7 +7,10 @@ ghost use Rattle.rules.specs.Step.{setOrder};
 ghost use Rattle.row_entry.specs.View.{rowOf, rowsOf};
 ghost use Rattle.row_renumber.specs.Marks.{renumberingOf};
 ghost use Rattle.ring_state.specs.State.{stateOf};
-ghost use Rattle.ring_tell.specs.Told.{rowTold, rowsTold, replyTold};
+ghost use Rattle.wire_pairs.specs.View.{pairsFrom};
+ghost use Rattle.ring_tell.specs.Told.{rowTold, rowsTold, changeTold, replyTold};
+use super::asks;
+use super::asks::Which;
 use super::changes;
 use ring_state::RegistryState;
 use row_entry::NodeEntry;
@@ -55,6 +58,37 @@ pub fn tell_entries(
         return changes::write_changes(out, at, pass, Delta::New, size, count, before, after);
     }
     0
+}
+
+// What a ring change in OK asks and tells: the ASKs for the first `count` entries, and INVALID for the pairs listed so far, which are the
+// first `listed` of two slices.
+pub fn tell_ring_change<'a>(
+    out: &mut [u8],
+    pass: u32,
+    size: u8,
+    count: usize,
+    entries: [NodeEntry; MAX_UNITS],
+    blocks: &'a [u8],
+    numbers: &'a [u8],
+    listed: usize,
+) -> usize
+    requires { ⌜ (3 ≤ size)
+        × (length (encodeAll pass (changeTold size (rowsOf count entries) (pairsFrom listed (now blocks) (now numbers)))) ≤ length (now out)) ⌝ }
+    ensures { λ r. ⌜ Wrote (now (out .entry)) 0
+        (encodeAll pass (changeTold size (rowsOf count entries) (pairsFrom listed (now (blocks .entry)) (now (numbers .entry)))))
+        r (now (out .exit)) ⌝ }
+{
+    let asked = asks::write_asks(out, 0, pass, Which::Open, count, entries);
+    wire_orders::write_deltas(
+        out,
+        asked,
+        pass,
+        Delta::Invalid,
+        size,
+        blocks,
+        numbers,
+        listed,
+    )
 }
 
 // The SET of a renumbering, to the address that is kept.

@@ -1,6 +1,6 @@
--- ASKs for the new entries, INVALID for what was listed, then the ending.
+-- What the new entries and the listing have the box say, then the ending.
 use Prim.Native.Nat.{_+_, _-_}
-use Rattle.registry.proofs.Rescanning.{asks-room, closing-room, listed-room, rescanned-done, state-ok}
+use Rattle.registry.proofs.Rescanning.{change-room, closing-room, rescanned-done, state-ok}
 use Rattle.registry.specs.View.{viewOf}
 use Rattle.registry.specs.declared.image.RegistryImage.{RegistryImage}
 use Rattle.ring_listing.proofs.Promises.{promises}
@@ -48,44 +48,33 @@ module _ (e : tie.After-new-entries) where
       let made = e .before .listing .ensures in
       ap (λ (l : Listing). pairsFrom (l .count) (l .blocks) (l .numbers)) (made .0) ∙ promises .pairs _ (made .1)
 
-write-asks-requires : tie.Need-write-asks-requires
+tell-ring-change-requires : tie.Need-tell-ring-change-requires
 unfolding viewOf
-write-asks-requires c κs =
-    let e = c .before in
+tell-ring-change-requires c κs =
+    let e = c .before .before .before .before .before .before in
     let start = startOf e in
-    asks-room (viewOf (image e)) (start .args .nodes) (start .pre .5) (left e) (listed e) (start .args .out .now) (start .pre .2)
-
-write-deltas-requires : tie.Need-write-deltas-requires
-unfolding viewOf
-write-deltas-requires c κs =
-    let at-write-asks = c .before .before .before .before .before .before .before .before in
-    let e = at-write-asks .before .before in
-    let start = startOf e in
-    (start .pre .3, omega (arith, listed-room (viewOf (image e)) (start .args .nodes) (start .pre .5) (left e) (listed e) (start .args .out .now) (start .pre .2) (at-write-asks .write-asks .ensures)))
+    (start .pre .3, change-room (viewOf (image e)) (start .args .nodes) (start .pre .5) (left e) (listed e) (start .args .out .now) (start .pre .2))
 
 finish-requires : tie.Need-finish-requires
 unfolding viewOf runs
 finish-requires c κs =
-    let at-write-deltas = c .before .before .before in
-    let at-write-asks = at-write-deltas .before .before .before .before .before .before .before .before .before in
-    let e = at-write-asks .before .before in
+    let at-tell-ring-change = c .before .before .before in
+    let e = at-tell-ring-change .before .before .before .before .before .before .before in
     let start = startOf e in
-    closing-room (viewOf (image e)) (start .args .nodes) (start .pre .5) (left e) (listed e) (start .args .out .now) (start .pre .2) (at-write-asks .write-asks .ensures) (at-write-deltas .write-deltas .ensures)
+    closing-room (viewOf (image e)) (start .args .nodes) (start .pre .5) (left e) (listed e) (start .args .out .now) (start .pre .2) (at-tell-ring-change .tell-ring-change .ensures)
 
 returns : tie.Need-returns
 unfolding viewOf runs
 returns c =
     let at-finish = c .before .before in
-    let at-write-deltas = at-finish .before .before .before .before in
-    let at-write-asks = at-write-deltas .before .before .before .before .before .before .before .before .before in
-    let e = at-write-asks .before .before in
+    let at-tell-ring-change = at-finish .before .before .before .before in
+    let e = at-tell-ring-change .before .before .before .before .before .before .before in
     let start = startOf e in
-    rescanned-done (viewOf (image e)) (start .args .nodes) (start .pre .5) (left e) (listed e) (start .args .out .now) (start .pre .2) (at-write-asks .write-asks .ensures) (at-write-deltas .write-deltas .ensures)
+    rescanned-done (viewOf (image e)) (start .args .nodes) (start .pre .5) (left e) (listed e) (start .args .out .now) (start .pre .2) (at-tell-ring-change .tell-ring-change .ensures)
     (at-finish .finish .ensures .0)
     (λ m. at-finish .finish .ensures .1 (record { state = m .state; delay = omega arith; units = omega (arith, start .pre .1); entries = e .new-entries .ensures .1 }))
 
 pub rescan-spec : {M : Type 1} → statement M
 rescan-spec =
     tie.close
-    (tie.spec (search needs) (search needs) (search needs) (search needs) (search needs) write-asks-requires
-    write-deltas-requires finish-requires (search needs) returns)
+    (tie.spec (search needs) (search needs) (search needs) (search needs) (search needs) tell-ring-change-requires finish-requires (search needs) returns)

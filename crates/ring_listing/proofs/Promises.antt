@@ -58,7 +58,7 @@ module _ (es : List Entry) (h : length es ≤ maxEntries) where
       (λ t. entry (filled-at (λ (e : Entry). e .position) i none l t) (filled-at (λ (e : Entry). e .address) i none l t)
       (pairOf (filled-at (λ (e : Entry). e .pair .block) i none l t) (filled-at (λ (e : Entry). e .pair .number) i none l t)))
 
--- a flat listing of up to 1,008 entries holds these entries, in their order
+-- a flat listing of as many entries as it has places holds these entries, in their order
 holds : (es : List Entry) → length es ≤ maxEntries → entriesIn (flatOf es) ≡ es
 unfolding entriesIn flatOf
 holds es h = all-read (entryAt (flatOf es)) (none es h) 0 es (read es h)

@@ -9,7 +9,7 @@ use Rattle.wire_pairs.specs.View.{pairsFrom}
 use Rattle.ring_listing.specs.View.{flatOf, entriesIn}
 
 pub record Promises : Type 0 where
-  -- a flat listing of up to 1,008 entries holds these entries, in their order
+  -- a flat listing of as many entries as it has places holds these entries, in their order
   pub holds : (es : List Entry) → length es ≤ maxEntries → entriesIn (flatOf es) ≡ es
   -- its blocks and numbers side by side are the listed pairs, in their order
   pub pairs : (es : List Entry) → length es ≤ maxEntries

@@ -9,7 +9,7 @@ use Rattle.rules.specs.Listing.{Entry, entry}
 use Rattle.wire_pairs.specs.View.{pairOf}
 use Rattle.ring_listing.specs.declared.Listing.{Listing}
 
--- 1,008 places, zeros behind those that are filled
+-- as many places as a listing has at most, zeros behind those that are filled
 unfoldable pub filled : List ℕ → List ℕ
 filled ns = sets (replicate maxEntries 0) 0 ns
 

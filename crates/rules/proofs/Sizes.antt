@@ -1,4 +1,4 @@
--- The orders of one event fit the largest event, which has 4,136 bytes.
+-- The orders of one event fit the largest event.
 use Prim.Native.Nat.{ℕ, zero, suc, _+_, _-_, _*_, _/_, _≤_, min}
 use mathlib.Core.Path.{_≡_, refl, sym, _∙_, ap, ap₂, subst}
 use mathlib.Core.Bool.{Bool, true, false, cond, not, _&&_, _||_}

@@ -1,4 +1,4 @@
--- As many pairs as there are, at most 16.
+-- As many pairs as there are, at most as many as a row keeps.
 use Prim.Native.Nat.{ℕ}
 use Rattle.wire_pairs.proofs.Arrays.{pairs-min}
 use Rattle.wire_pairs.specs.View.{pairsFrom, pairsOf}

@@ -63,10 +63,10 @@ fn list_entry(
 pub fn listing_of(count: usize, entries: [NodeEntry; MAX_UNITS]) -> Listing
     ensures { λ r. ⌜ (r ≡ flatOf (entriesFrom 1 (rowsOf count entries))) × (length (entriesFrom 1 (rowsOf count entries)) ≤ maxEntries) ⌝ }
 {
-    let mut positions = [0u8; 1008];
-    let mut addresses = [0u16; 1008];
-    let mut blocks = [0u8; 1008];
-    let mut numbers = [0u8; 1008];
+    let mut positions = [0u8; 1512];
+    let mut addresses = [0u16; 1512];
+    let mut blocks = [0u8; 1512];
+    let mut numbers = [0u8; 1512];
     let n = clamp(count);
     let mut end = 0;
     let mut i = 0;

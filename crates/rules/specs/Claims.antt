@@ -131,16 +131,16 @@ Allowed p (some (ANSWER c x a ps)) = openAt p x ≡ true
 Allowed p (some (NONE c x)) = openAt p x ≡ true
 Allowed p (some (DELAY c)) = ⊥
 
--- "at most 49 × (N−1) × (2N−1)"
+-- "at most 73 × (N−1) × (2N−1)"
 unfoldable pub bound : ℕ → ℕ
-bound n = 49 * (n - 1) * (2 * n - 1)
+bound n = 73 * (n - 1) * (2 * n - 1)
 
 -- "the state is OK with no question open". Where it was NOTOK before, this is when OK comes.
 pub record Arrived (p : Picture) : Type 0 where
   pub ok : p .state ≡ Ok
   pub closed : (x : ℕ) → openAt p x ≡ false
 
--- "OK comes after at most 49 × (N−1) × (2N−1) of them, unless the list holds fewer. From it until then, after each record", the ring
+-- "OK comes after at most 73 × (N−1) × (2N−1) of them, unless the list holds fewer. From it until then, after each record", the ring
 -- awaits an answer or a silence; "for an NCE in OK: after at most the same number of replies to open questions the state is OK with no
 -- question open." The START or NCE is the record in front of place i; the list is looked at up to place e, its end or an earlier one.
 pub data Reaches (l : ℕ) (rs : List Record) (fromOk : Bool) (i e n : ℕ) : Type 0 where
@@ -162,13 +162,13 @@ pub record Demand3 (l : ℕ) (rs : List Record) : Type 0 where
 pub record EmptyInOff (l : ℕ) (rs : List Record) : Type 0 where
   pub empty : (k : ℕ) → k ≤ length rs → pictureAt l rs k .state ≡ Off → listing (pictureAt l rs k) ≡ []
 
--- The events that have bytes: "N is 1 to 64", a pass of four bytes and an address of two, "up to 16 pairs", and no "block 00, 01 or
+-- The events that have bytes: "N is 1 to 64", a pass of four bytes and an address of two, "up to 24 pairs", and no "block 00, 01 or
 -- FF". Decoding the bytes of such an event gives the event.
 abbrev pub Writable : Event → Type 0
 Writable (START n) = (1 ≤ n) × (n ≤ 64)
 Writable (NCE n) = (1 ≤ n) × (n ≤ 64)
 Writable SHUTDOWN = Unit {0}
-Writable (ANSWER c x a ps) = (c ≤ 4_294_967_295) × (a < 65_536) × (length ps ≤ 16) × All (λ (p : Pair). (0x02 ≤ p .block) × (p .block ≤ 0xFE)) ps
+Writable (ANSWER c x a ps) = (c ≤ 4_294_967_295) × (a < 65_536) × (length ps ≤ 24) × All (λ (p : Pair). (0x02 ≤ p .block) × (p .block ≤ 0xFE)) ps
 Writable (NONE c x) = c ≤ 4_294_967_295
 Writable (DELAY c) = c ≤ 4_294_967_295
 
@@ -184,13 +184,13 @@ pub record DecodesOnly (b : List ℕ) : Type 0 where
 pub record Bounds (l : ℕ) (rs : List Record) : Type 0 where
   pub pass : (k : ℕ) → k ≤ length rs → pictureAt l rs k .pass ≤ 4_294_967_295
   pub rows : (k : ℕ) → k ≤ length rs → length (pictureAt l rs k .rows) ≤ 63
-  pub pairs : (k x : ℕ) → k ≤ length rs → length (pairsIn (rowAt (pictureAt l rs k .rows) x)) ≤ 16
-  pub entries : (k : ℕ) → k ≤ length rs → length (listing (pictureAt l rs k)) ≤ 1_008
+  pub pairs : (k x : ℕ) → k ≤ length rs → length (pairsIn (rowAt (pictureAt l rs k .rows) x)) ≤ 24
+  pub entries : (k : ℕ) → k ≤ length rs → length (listing (pictureAt l rs k)) ≤ 1_512
 
--- No record of any list writes more than 4,136 bytes of orders, so that 8,192 bytes of order room do: they stand at the start of the
+-- No record of any list writes more than 5,952 bytes of orders, so that 8,192 bytes of order room do: they stand at the start of the
 -- lent buffer. "Lent bytes beyond what was written never change."
 pub record Fits (l : ℕ) (rs : List Record) : Type 0 where
-  pub fits : (k : ℕ) → k < length rs → length (written (offered (pictureAt l rs k) (recordAt rs k))) ≤ 4_136
+  pub fits : (k : ℕ) → k < length rs → length (written (offered (pictureAt l rs k) (recordAt rs k))) ≤ 5_952
   pub beyond : (k : ℕ) → k < length rs → (buffer : List ℕ) → 8_192 ≤ length buffer
       → lent buffer (offered (pictureAt l rs k) (recordAt rs k))
       ≡ written (offered (pictureAt l rs k) (recordAt rs k)) ++ drop (length (written (offered (pictureAt l rs k) (recordAt rs k)))) buffer

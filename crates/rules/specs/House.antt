@@ -16,11 +16,11 @@ maxNodes = 64
 abbrev pub maxUnits : ℕ
 maxUnits = maxNodes - 1
 
--- "up to 16 pairs (FBlockID, InstID) (house)"
+-- "A row holds up to 24 pairs .. an ANSWER up to 24" (ticket 8)
 abbrev pub maxPairs : ℕ
-maxPairs = 16
+maxPairs = 24
 
--- "the whole listing of up to 1,008 block instances"
+-- "the whole listing up to 1,512" (ticket 8)
 abbrev pub maxEntries : ℕ
 maxEntries = maxUnits * maxPairs
 

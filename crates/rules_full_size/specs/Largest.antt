@@ -18,4 +18,4 @@ unfoldable pub fullRing : List Record
 fullRing = withRoom 8 0x4D45_01_00000000_40 ∷ map fills (upFrom 1 maxUnits) ++ withRoom 8 0x4D45_02_00000000_40 ∷ []
 
 pub record LargestEvent : Type 0 where
-  pub bytes : length (written (offered (pictureAt 12 fullRing 64) (recordAt fullRing 64))) ≡ 4_136
+  pub bytes : length (written (offered (pictureAt 12 fullRing 64) (recordAt fullRing 64))) ≡ 5_952

@@ -16,7 +16,7 @@ pub const MAX_NODES: u8 = 64;
 pub const MAX_UNITS: usize = MAX_NODES as usize - 1;
 
 // The most pairs that a unit announces and its row keeps, and the most that a listing has.
-pub const MAX_PAIRS: usize = 16;
+pub const MAX_PAIRS: usize = 24;
 
 pub const MAX_LISTED: usize = MAX_UNITS * MAX_PAIRS;
 

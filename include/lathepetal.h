@@ -24,7 +24,7 @@
  *   array, also for those behind the last unit.
  *
  * The box keeps nothing between calls: no globals, no allocation, no locks. Threads may call at the same time, each with its own picture,
- * state and buffers. Stack, with the copies that a call passes and returns: lathepetal_record up to 48 KiB, lathepetal_listing 16 KiB,
+ * state and buffers. Stack, with the copies that a call passes and returns: lathepetal_record up to 56 KiB, lathepetal_listing 24 KiB,
  * the others 8 KiB. */
 #ifndef LATHEPETAL_H
 #define LATHEPETAL_H
@@ -40,7 +40,7 @@ extern "C" {
 #define LATHEPETAL_MIN_SIZE 12       /* L, the payload size of a telegram: from here */
 #define LATHEPETAL_MAX_SIZE 45       /* to here */
 #define LATHEPETAL_MAX_UNITS 63      /* units with an entry: positions 1 and above */
-#define LATHEPETAL_MAX_PAIRS 16      /* pairs that an entry keeps */
+#define LATHEPETAL_MAX_PAIRS 24      /* pairs that an entry keeps */
 #define LATHEPETAL_MIN_ROOM 8192     /* the least room for orders, which is enough for each record */
 #define LATHEPETAL_MAX_PAYLOAD 65535 /* the longest message, and the least join buffer */
 /* The entries of a picture, one for each unit; the places of a listing; the longest telegram. */

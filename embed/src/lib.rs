@@ -4,7 +4,7 @@
 pub const MIN_SIZE: usize = 12;
 pub const MAX_SIZE: usize = 45;
 pub const MAX_UNITS: usize = 63;
-pub const MAX_PAIRS: usize = 16;
+pub const MAX_PAIRS: usize = 24;
 pub const MAX_LISTED: usize = MAX_UNITS * MAX_PAIRS;
 pub const MIN_ROOM: usize = 8192;
 pub const MAX_TELEGRAM: usize = 6 + MAX_SIZE;

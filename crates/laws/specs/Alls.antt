@@ -1,14 +1,14 @@
 -- Properties of every element, of every two elements, and of the elements of two lists side by side.
 use mathlib.Core.Path.{_≡_, refl, sym, _∙_, ap}
-use mathlib.Core.Bool.{Bool, true, false, _||_}
+use mathlib.Core.Bool.{Bool, true, false, cond, _||_}
 use mathlib.Core.List.{List, [], _∷_, _++_, map}
 use mathlib.Core.Logic.{_⊎_, inl, inr}
 use Prim.Native.Nat.{ℕ, zero, suc, _<_}
 use native.Mathlib.Nat.{not-suc-le-zero, le-of-suc-le-suc}
 use native.Mathlib.Omega.{arith}
 use lib.ListN.{length, getD, set, drop, replicate}
-use Rattle.laws.specs.Lists.{any, collect}
-use Rattle.laws.specs.Bools.{or-assoc, or-left, or-right, or-false, or-cases, or-true-left, or-true-right, clash}
+use Rattle.laws.specs.Lists.{any, select, collect}
+use Rattle.laws.specs.Bools.{or-assoc, or-left, or-right, or-false, or-cases, or-true-left, or-true-right, cond-true, cond-false, clash}
 
 -- P holds of every element
 pub data All {A : Type 0} (P : A → Type 0) : List A → Type 0 where
@@ -226,3 +226,25 @@ module _ {A B : Type 0} where
   pub pairwise-always : (R : B → B → Type 0) (f : A → B) → ((x y : A) → R (f x) (f y)) → (xs : List A) → Pairwise R (map f xs)
   pairwise-always R f h [] = pairwise-nil
   pairwise-always R f h (x ∷ xs) = pairwise-cons (all-mapped f {xs = xs} (all-of xs (h x))) (pairwise-always R f h xs)
+
+-- the elements that pass a test: of two lists, where all do, where none does
+module _ {A : Type 0} (f : A → Bool) where
+  pub select-append : (xs ys : List A) → select f (xs ++ ys) ≡ select f xs ++ select f ys
+  unfolding select
+  select-append [] ys = refl
+  select-append (x ∷ xs) ys = go (f x) (select-append xs ys)
+    where
+      go : (b : Bool) → select f (xs ++ ys) ≡ select f xs ++ select f ys
+          → cond b (x ∷ select f (xs ++ ys)) (select f (xs ++ ys)) ≡ cond b (x ∷ select f xs) (select f xs) ++ select f ys
+      go true e = ap (_∷_ x) e
+      go false e = e
+
+  pub select-all : {xs : List A} → All (λ (x : A). f x ≡ true) xs → select f xs ≡ xs
+  unfolding select
+  select-all all-nil = refl
+  select-all (all-cons {x} {xs} h hs) = cond-true (x ∷ select f xs) (select f xs) h ∙ ap (_∷_ x) (select-all hs)
+
+  pub select-none : {xs : List A} → All (λ (x : A). f x ≡ false) xs → select f xs ≡ []
+  unfolding select
+  select-none all-nil = refl
+  select-none (all-cons {x} {xs} h hs) = cond-false (x ∷ select f xs) (select f xs) h ∙ select-none hs

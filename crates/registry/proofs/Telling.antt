@@ -14,29 +14,8 @@ use Rattle.rules.specs.Picture.{Pair, samePair, holds, isOk, Row, Status, WAITI
 use Rattle.rules.specs.Order.{Order, NEW, INVALID}
 use Rattle.rules.specs.Step.{rowsSeparately, asked}
 use Rattle.rules.specs.Ending.{missing, packed, tell, lost, gained, tellRows, toldBy, told}
+use Rattle.rules.proofs.Pairs.{missing-self}
 use Rattle.ring_tell.specs.Told.{rowTold, rowsTold}
-
--- every pair is one of its own list
-same-self : (a : Pair) → samePair a a ≡ true
-unfolding samePair
-same-self a = and-true (eqb (a .block) (a .block)) (eqb (a .number) (a .number)) (eq-eqb (a .block) (a .block) refl) (eq-eqb (a .number) (a .number) refl)
-
-hold-more : (x : Pair) (ps : List Pair) (a : Pair) → holds ps a ≡ true → holds (x ∷ ps) a ≡ true
-unfolding holds any
-hold-more x ps a h = or-true-right (samePair a x) (any (samePair a) ps) h
-
-hold-self : (ps : List Pair) → All (λ (a : Pair). holds ps a ≡ true) ps
-unfolding holds any
-hold-self [] = all-nil
-hold-self (x ∷ ps) = all-cons (ap (λ (b : Bool). b || any (samePair x) ps) (same-self x)) (all-map (hold-more x ps) (hold-self ps))
-
-missing-held : (qs : List Pair) {ps : List Pair} → All (λ (a : Pair). holds qs a ≡ true) ps → missing ps qs ≡ []
-unfolding missing select
-missing-held qs all-nil = refl
-missing-held qs (all-cons {x} {xs} h hs) = ap (λ (b : Bool). cond (not b) (x ∷ missing xs qs) (missing xs qs)) h ∙ missing-held qs hs
-
-missing-self : (ps : List Pair) → missing ps ps ≡ []
-missing-self ps = missing-held ps (hold-self ps)
 
 lost-same : (b a : Row) → pairsIn b ≡ pairsIn a → lost b a ≡ []
 unfolding lost

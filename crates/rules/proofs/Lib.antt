@@ -13,6 +13,7 @@ pub mod Demand3
 pub mod Sizes
 pub mod RingChange
 pub mod Off
+pub mod Whole
 pub mod Records
 pub mod Values
 pub mod States

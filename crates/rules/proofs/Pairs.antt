@@ -1,6 +1,6 @@
 -- Pairs: when two are the same, and that the good pairs of an answer are new and differ from each other.
 use Prim.Native.Nat.{ℕ, suc, _≤_}
-use mathlib.Core.Path.{_≡_, refl, sym, subst}
+use mathlib.Core.Path.{_≡_, refl, sym, ap, subst}
 use mathlib.Core.Bool.{Bool, true, false, cond, not, _&&_}
 use mathlib.Core.List.{List, [], _∷_}
 use native.Mathlib.Omega.{arith}
@@ -8,11 +8,12 @@ use borrow.Author.Tests.{eqb-true, eqb-false, eq-eqb, ne-eqb}
 use lib.Dec.{eqb, leb}
 use lib.ListN.{length}
 use Rattle.laws.specs.Lists.{any}
-use Rattle.laws.specs.Bools.{clash, and-left, and-right, and-true, not-true, refute}
-use Rattle.laws.specs.Alls.{All, all-nil, all-cons, all-head, all-tail, all-map, Pairwise, pairwise-nil, pairwise-cons, any-none}
+use Rattle.laws.specs.Bools.{clash, and-left, and-right, and-true, not-true, or-true-left, or-true-right, refute}
+use Rattle.laws.specs.Alls.{All, all-nil, all-cons, all-head, all-tail, all-map, Pairwise, pairwise-nil, pairwise-cons, any-none, select-none}
 use Rattle.rules.specs.House.{minNumber, maxNumber}
 use Rattle.rules.specs.Picture.{Pair, samePair, holds}
 use Rattle.rules.specs.Renumber.{isGood, judge, goods}
+use Rattle.rules.specs.Ending.{missing}
 
 pub eqb-turn : (a b : ℕ) → eqb a b ≡ false → eqb b a ≡ false
 eqb-turn a b h = ne-eqb b a (λ e. eqb-false a b h (sym e))
@@ -33,6 +34,16 @@ same-self a = and-true (eqb (a .block) (a .block)) (eqb (a .number) (a .number))
 
 pub differ-turn : (a b : Pair) → Differ a b → Differ b a
 differ-turn a b h = refute (samePair b a) (λ e. clash (subst (λ (z : Pair). samePair a z ≡ true) (sym (same-eq b a e)) (same-self a)) h)
+
+-- every pair is one of its own list, and none of them is missing in it
+held-self : (ps : List Pair) → All (λ (a : Pair). holds ps a ≡ true) ps
+unfolding holds any
+held-self [] = all-nil
+held-self (a ∷ ps) = all-cons (or-true-left (samePair a a) _ (same-self a)) (all-map (λ (b : Pair) (h : any (samePair b) ps ≡ true). or-true-right (samePair b a) (any (samePair b) ps) h) (held-self ps))
+
+pub missing-self : (ps : List Pair) → missing ps ps ≡ []
+unfolding missing
+missing-self ps = select-none (λ (a : Pair). not (holds ps a)) (all-map (λ a h. ap not h) (held-self ps))
 
 -- what a good pair avoids
 pub record New (elsewhere earlier : List Pair) (a : Pair) : Type 0 where

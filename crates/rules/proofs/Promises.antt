@@ -16,6 +16,7 @@ use Rattle.rules.proofs.Free.{freeNumbers}
 use Rattle.rules.proofs.Aimed.{setsAimed}
 use Rattle.rules.proofs.Barring.{unbarred}
 use Rattle.rules.proofs.Off.{emptyInOff}
+use Rattle.rules.proofs.Whole.{wholeListing}
 use Rattle.rules.proofs.Encode.{decodes}
 use Rattle.rules.proofs.Decode.{decodesOnly}
 use Rattle.rules.proofs.States.{statesByKinds}
@@ -38,6 +39,7 @@ promises =
       fits = fits;
       unbarred = unbarred;
       emptyInOff = emptyInOff;
+      wholeListing = wholeListing;
       checks = checks;
       refusal = refusal;
       carried = carried;

@@ -22,7 +22,7 @@ use Rattle.rules.specs.Renumber.{judge, goods, Renumbering, finished, re
 use Rattle.rules.specs.Step.{Packing, rowsSeparately, acrossRows, Change, change, respond, asks, scanned, scan, begin, rescanned, rescan, shutDown, changeRows, silenced, asked, delayEnds, ignored, counted, onCounted, setOrder, judgedFor, renumberingFor, listedRow, keepAnswer}
 use Rattle.rules.specs.Ending.{becomesOk, settled, okOrder, missing, packed, tell, lost, gained, tellRows, toldBy, told, waits, waitOrder, endOrders, ordersOf}
 use Rattle.rules.proofs.Ways.{Ways, Seated, Keepers, every-taken}
-use Rattle.rules.proofs.Pairs.{same-self, goods-few}
+use Rattle.rules.proofs.Pairs.{missing-self, goods-few}
 use Rattle.rules.proofs.Sound.{Apart, RowsApart, RowProper, Proper, SoundRows, Sound, Formed, kept-after, length-counted, split-rows}
 use Rattle.rules.proofs.Encode.{pairs-length}
 
@@ -138,16 +138,6 @@ missing-few (a ∷ ps) qs = go (not (holds qs a)) (missing ps qs) (missing-few p
     go true l h = omega arith
     go false l h = omega arith
 
-missing-held : (ps qs : List Pair) → All (λ (a : Pair). holds qs a ≡ true) ps → missing ps qs ≡ []
-unfolding missing select
-missing-held [] qs h = refl
-missing-held (a ∷ ps) qs h = cond-false _ _ (ap not (all-head h)) ∙ missing-held ps qs (all-tail h)
-
-all-held : (ps : List Pair) → All (λ (a : Pair). holds ps a ≡ true) ps
-unfolding holds any
-all-held [] = all-nil
-all-held (a ∷ ps) = all-cons (or-true-left (samePair a a) _ (same-self a)) (all-map (λ (b : Pair) (h : any (samePair b) ps ≡ true). or-true-right (samePair b a) (any (samePair b) ps) h) (all-held ps))
-
 -- how many pairs change between two lists of rows, row by row
 unfoldable changes : (Row → Row → List Pair) → List Row → List Row → ℕ
 changes pairs [] after = 0
@@ -204,11 +194,11 @@ changes-seat w (x ∷ xs) (x′ ∷ xs′) r r′ ys ys′ h = let e = changes-s
 
 lost-same : (r : Row) → length (lost r r) ≡ 0
 unfolding lost
-lost-same r = ap length (missing-held (pairsIn r) (pairsIn r) (all-held (pairsIn r)))
+lost-same r = ap length (missing-self (pairsIn r))
 
 gained-same : (r : Row) → length (gained r r) ≡ 0
 unfolding gained
-gained-same r = ap length (missing-held (pairsIn r) (pairsIn r) (all-held (pairsIn r)))
+gained-same r = ap length (missing-self (pairsIn r))
 
 lost-few : (b a : Row) → length (lost b a) ≤ length (pairsIn b)
 unfolding lost

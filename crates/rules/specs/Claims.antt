@@ -16,8 +16,8 @@ use Rattle.rules.specs.Order.{encodeAll, Order, ASK, SET, OK, NOTOK, NEW
 use Rattle.rules.specs.Run.{Outcome, refused, taken, Record, offered, next, after, history, Sent, sentBy, written, lent, resultOf}
 use Rattle.rules.specs.Telegram.{uncounted, countNumber, countValue, uncut, cutNumber, cutBytes, cutLength, unjoined, joinNumber, joinMsgId, joinLength}
 use Rattle.rules.specs.Telegram.{telegramOf, telegrams, countOf, count, countIs, cut, cutTo, Joining, idle, stillOpen, complete, join, joinAll}
-use Rattle.laws.specs.Lists.{collect, upFrom}
-use Rattle.laws.specs.Alls.{All}
+use Rattle.laws.specs.Lists.{select, collect, upFrom}
+use Rattle.laws.specs.Alls.{All, Pairwise}
 use Rattle.rules.specs.Listing.{Entry, listing, listedPositions, lookUp, found, notFound, lookupNumber, lookupPosition, lookupAddress}
 
 -- the event that a record is taken as; none where it is refused
@@ -161,6 +161,16 @@ pub record Demand3 (l : ℕ) (rs : List Record) : Type 0 where
 -- "It can be had in every state and is empty in OFF."
 pub record EmptyInOff (l : ℕ) (rs : List Record) : Type 0 where
   pub empty : (k : ℕ) → k ≤ length rs → pictureAt l rs k .state ≡ Off → listing (pictureAt l rs k) ≡ []
+
+-- "the whole listing .., by position and announced order: the pairs kept by LISTED and SETTING rows": the pairs of each position are
+-- those that its row keeps, in their order, each with the address that the row keeps, and the positions ascend. No entry is cut off.
+unfoldable pub standsAt : ℕ → Entry → Bool
+standsAt x e = eqb x (e .position)
+
+pub record WholeListing (p : Picture) : Type 0 where
+  pub pairs : (x : ℕ) → map (λ (e : Entry). e .pair) (select (standsAt x) (listing p)) ≡ pairsIn (rowAt (p .rows) x)
+  pub addresses : All (λ (e : Entry). keeps (e .address) (rowAt (p .rows) (e .position)) ≡ true) (listing p)
+  pub ascends : Pairwise (λ (d e : Entry). d .position ≤ e .position) (listing p)
 
 -- The events that have bytes: "N is 1 to 64", a pass of four bytes and an address of two, "up to 24 pairs", and no "block 00, 01 or
 -- FF". Decoding the bytes of such an event gives the event.

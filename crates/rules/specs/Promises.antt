@@ -7,7 +7,7 @@ use Rattle.rules.specs.Picture.{Off, NotOk, Ok, Pair, Picture, fresh}
 use Rattle.rules.specs.Event.{Event}
 use Rattle.rules.specs.Run.{Record, after}
 use Rattle.rules.specs.Telegram.{Joining}
-use Rattle.rules.specs.Claims.{Demand3, RingChange, Checks, Bounds, Fits, Refusal, Carried, SetsAimed, Unbarred, EmptyInOff, FreeNumber, Decodes, DecodesOnly, StatesByKinds, Values, Numbers, RoundTrip, Cuts, Lengths}
+use Rattle.rules.specs.Claims.{Demand3, RingChange, Checks, Bounds, Fits, Refusal, Carried, SetsAimed, Unbarred, EmptyInOff, WholeListing, FreeNumber, Decodes, DecodesOnly, StatesByKinds, Values, Numbers, RoundTrip, Cuts, Lengths}
 use Rattle.rules.specs.Table.{obtained, expected}
 use Rattle.rules.specs.Edges.{edges as edgeTable}
 use Rattle.rules.specs.Cases.{cases as caseTable}
@@ -23,6 +23,8 @@ pub record Promises : Type 0 where
   pub fits : (l : ℕ) (rs : List Record) → Fits l rs
   pub unbarred : (l : ℕ) (rs : List Record) → Unbarred l rs
   pub emptyInOff : (l : ℕ) (rs : List Record) → EmptyInOff l rs
+  -- of every picture
+  pub wholeListing : (p : Picture) → WholeListing p
   -- of every picture and every record
   pub checks : (p : Picture) (r : Record) → Checks p r
   pub refusal : (p : Picture) (r : Record) → Refusal p r

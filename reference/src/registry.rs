@@ -191,6 +191,9 @@ fn address_is_good(address: u16) -> bool {
     (ADDRESS_MIN..=ADDRESS_MAX).contains(&address)
 }
 
+/// Which pairs of an announcement are bad, by index.
+type BadPairs = [bool; MAX_PAIRS];
+
 /// What an announced address means for a row.
 enum Verdict {
     Barred,
@@ -506,14 +509,14 @@ impl Ring {
         self.set_status(position, status);
     }
 
-    /// Keeps the good pairs of an announcement; the bad ones come back as bits by index.
-    fn keep_good_pairs(&mut self, position: u8, announcement: &Announcement) -> u32 {
-        let mut bad_pairs = 0;
-        for (index, pair) in announcement.pairs().enumerate() {
+    /// Keeps the good pairs of an announcement; the indices of the bad ones come back marked.
+    fn keep_good_pairs(&mut self, position: u8, announcement: &Announcement) -> BadPairs {
+        let mut bad_pairs = [false; MAX_PAIRS];
+        for (pair, bad) in announcement.pairs().zip(&mut bad_pairs) {
             if (0x01..=0xFE).contains(&pair.number) && self.kept.insert(pair) {
                 self.rows[position as usize].push(pair);
             } else {
-                bad_pairs |= 1 << index;
+                *bad = true;
             }
         }
         bad_pairs
@@ -525,7 +528,7 @@ impl Ring {
         position: u8,
         status: Status,
         announcement: &Announcement,
-        bad_pairs: u32,
+        bad_pairs: BadPairs,
         orders: &mut Orders,
     ) -> Status {
         let address = announcement.address;
@@ -534,7 +537,7 @@ impl Ring {
             _ => (0, 0),
         };
         while let Some(pair) = announcement.pair(place) {
-            if bad_pairs >> place & 1 == 1 && tries < MAX_TRIES {
+            if bad_pairs[place as usize] && tries < MAX_TRIES {
                 if let Some(number) = self.free_number(pair.block, announcement) {
                     orders.set(self.pass, position, address, pair, number);
                     return Status::Setting { address, place, tries: tries + 1 };

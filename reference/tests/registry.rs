@@ -46,9 +46,13 @@ fn open_positions(ring: &Ring) -> Vec<u8> {
     ring.rows().filter(|(_, row)| open(row.status())).map(|(position, _)| position).collect()
 }
 
+/// The most SETs that one pair gets in a row.
+const TRIES: u8 = 3;
+
+/// In each pass each unit gets all SETs for each of its pairs, and answers once more.
 fn bound(nodes: u8) -> usize {
     let nodes = usize::from(nodes);
-    49 * (nodes - 1) * (2 * nodes - 1)
+    (usize::from(TRIES) * MAX_PAIRS + 1) * (nodes - 1) * (2 * nodes - 1)
 }
 
 fn random_record(random: &mut Random, ring: &Ring, position: u8) -> Vec<u8> {
@@ -96,7 +100,7 @@ fn the_bound_is_reached() {
             let position = open.iter().copied().find(|&position| Some(position) != liar).unwrap_or(open[0]);
             let status = ring.row(position).expect("a row").status();
             let at_end =
-                matches!(status, Status::Setting { place, tries: 3, .. } if usize::from(place) == MAX_PAIRS - 1);
+                matches!(status, Status::Setting { place, tries: TRIES, .. } if usize::from(place) == MAX_PAIRS - 1);
             let address = if at_end && Some(position) == liar { 0x0300 } else { 0x0100 + u16::from(position) };
             ring.record(&answer(&ring, position, address, &refused), &mut [0; MIN_ROOM]).expect("a reply is taken");
             taken += 1;
@@ -262,15 +266,16 @@ fn the_greatest_listing() {
     }
     let blank = Entry { position: 0, address: 0, block: 0, number: 0 };
     let mut entries = [blank; MAX_LISTED];
-    assert_eq!(ring.listing_into(&mut entries), 1008);
+    assert_eq!(ring.listing_into(&mut entries), MAX_LISTED);
     assert_eq!(ring.listing(), entries);
     assert_eq!(ring.look_up(0x4F, MAX_PAIRS as u8), Ok((63, 0x013F)));
 }
 
 #[test]
 fn a_block_with_one_number_free_and_with_none() {
+    let last = 254u8.div_ceil(MAX_PAIRS as u8) + 2;
     for spare in 1..=255u8 {
-        let mut ring = started(19);
+        let mut ring = started(last + 1);
         let numbers: Vec<[u8; 2]> = (1..=254).filter(|&number| number != spare).map(|number| [0x22, number]).collect();
         let mut position = 0;
         for chunk in numbers.chunks(MAX_PAIRS) {
@@ -279,12 +284,12 @@ fn a_block_with_one_number_free_and_with_none() {
             assert_eq!(ring.record(&record, &mut [0; MIN_ROOM]), Ok(0));
         }
         let mut out = [0; MIN_ROOM];
-        let record = answer(&ring, 18, 0x0200, &[[0x22, 0x00]]);
+        let record = answer(&ring, last, 0x0200, &[[0x22, 0x00]]);
         let length = ring.record(&record, &mut out).expect("the answer is taken");
         if spare == 255 {
             assert_eq!(length, 0);
         } else {
-            assert_eq!(out[..length], [0x4D, 0x4F, 2, 0, 0, 0, 1, 18, 2, 0, 0x22, 0, spare]);
+            assert_eq!(out[..length], [0x4D, 0x4F, 2, 0, 0, 0, 1, last, 2, 0, 0x22, 0, spare]);
         }
     }
 }

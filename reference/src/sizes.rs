@@ -5,7 +5,7 @@ pub const MAX_NODES: usize = 64;
 /// The most units, from position 1 on.
 pub const MAX_UNITS: usize = MAX_NODES - 1;
 /// The most pairs a row keeps and an ANSWER carries.
-pub const MAX_PAIRS: usize = 16;
+pub const MAX_PAIRS: usize = 24;
 /// The most entries of a listing.
 pub const MAX_LISTED: usize = MAX_UNITS * MAX_PAIRS;
 /// The least order room.

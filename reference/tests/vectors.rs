@@ -1,4 +1,4 @@
-//! Holds the reference to the outside vectors V1 to V15 and T1 to T5, and to the edges of paper 01 and ticket 1.
+//! Holds the reference to the outside vectors V1 to V15 and T1 to T5, and to the edges of paper 01 and tickets 1 and 8.
 
 use reference::registry::{Ring, State, Status};
 use reference::scripts;
@@ -162,6 +162,20 @@ const VECTORS: &[Vector] = &[
 4D45 01 00000000 02 | ASK 1-1 1
 4D45 04 00000001 01 0300 00 | 4D4F 04 00000002 | ASK 1-1 2
 4D45 04 00000002 01 02FF 00 | 4D4F 03 00000002"),
+    Vector("Edge: count 25", 12, "
+4D45 01 00000000 02 | ASK 1-1 1
+4D45 04 00000001 01 0101 19 4001 4002 4003 4004 4005 4006 4007 4008 4009 400A 400B 400C 400D 400E 400F 4010 4011 4012 4013 4014 4015 4016 4017 4018 4019 | #2
+4D45 04 00000001 01 0101 18 4001 4002 4003 4004 4005 4006 4007 4008 4009 400A 400B 400C 400D 400E 400F 4010 4011 4012 4013 4014 4015 4016 4017 4018 4019 | #2
+4D45 04 00000001 01 0101 19 4001 4002 4003 4004 4005 4006 4007 4008 4009 400A 400B 400C 400D 400E 400F 4010 4011 4012 4013 4014 4015 4016 4017 4018 | #2
+4D45 04 00000001 01 0101 18 4001 4002 4003 4004 4005 4006 4007 4008 4009 400A 400B 400C 400D 400E 400F 4010 4011 4012 4013 4014 4015 4016 4017 | #2
+4D45 04 00000001 01 0101 19 4001 | #2
+4D45 04 00000001 01 0101 19 | #2
+4D45 04 00000001 01 0101 FF | #2
+4D45 04 00000001 01 0101 18 4001 4002 4003 4004 4005 4006 4007 4008 4009 400A 400B 400C 400D 400E 400F 4010 4011 4012 4013 4014 4015 4016 4017 4018 | 4D4F 03 00000001
+4D45 04 00000001 01 0101 19 4001 4002 4003 4004 4005 4006 4007 4008 4009 400A 400B 400C 400D 400E 400F 4010 4011 4012 4013 4014 4015 4016 4017 4018 4019 | #2
+4D45 04 00000001 01 0101 10 4001 4002 4003 4004 4005 4006 4007 4008 4009 400A 400B 400C 400D 400E 400F 4010 4011 | #2
+4D45 04 00000001 01 0101 11 4001 4002 4003 4004 4005 4006 4007 4008 4009 400A 400B 400C 400D 400E 400F 4010 | #2
+4D45 04 00000001 01 0101 11 4001 4002 4003 4004 4005 4006 4007 4008 4009 400A 400B 400C 400D 400E 400F 4010 4011 | 4D4F 06 00000001 05 4012 4013 4014 4015 4016 | 4D4F 06 00000001 02 4017 4018"),
     Vector("Edge: NONE of an old pass", 12, "
 4D45 01 00000000 03 | ASK 1-2 1
 4D45 05 00000001 01
@@ -216,22 +230,22 @@ const VECTORS: &[Vector] = &[
 4D45 04 00000001 02 0102 03 2201 3101 4001 | 4D4F 03 00000001"),
     Vector("Edge: a re-plug in OK tells full rows:", 12, "
 4D45 01 00000000 03 | ASK 1-2 1
-4D45 04 00000001 01 0101 10 4001 4002 4003 4004 4005 4006 4007 4008 4009 400A 400B 400C 400D 400E 400F 4010
-4D45 04 00000001 02 0102 10 4101 4102 4103 4104 4105 4106 4107 4108 4109 410A 410B 410C 410D 410E 410F 4110 | 4D4F 03 00000001
-4D45 02 00000000 03 | ASK 1-2 2 | 4D4F 06 00000002 05 4001 4002 4003 4004 4005 | 4D4F 06 00000002 05 4006 4007 4008 4009 400A | 4D4F 06 00000002 05 400B 400C 400D 400E 400F | 4D4F 06 00000002 05 4010 4101 4102 4103 4104 | 4D4F 06 00000002 05 4105 4106 4107 4108 4109 | 4D4F 06 00000002 05 410A 410B 410C 410D 410E | 4D4F 06 00000002 02 410F 4110
+4D45 04 00000001 01 0101 18 4001 4002 4003 4004 4005 4006 4007 4008 4009 400A 400B 400C 400D 400E 400F 4010 4011 4012 4013 4014 4015 4016 4017 4018
+4D45 04 00000001 02 0102 18 4101 4102 4103 4104 4105 4106 4107 4108 4109 410A 410B 410C 410D 410E 410F 4110 4111 4112 4113 4114 4115 4116 4117 4118 | 4D4F 03 00000001
+4D45 02 00000000 03 | ASK 1-2 2 | 4D4F 06 00000002 05 4001 4002 4003 4004 4005 | 4D4F 06 00000002 05 4006 4007 4008 4009 400A | 4D4F 06 00000002 05 400B 400C 400D 400E 400F | 4D4F 06 00000002 05 4010 4011 4012 4013 4014 | 4D4F 06 00000002 05 4015 4016 4017 4018 4101 | 4D4F 06 00000002 05 4102 4103 4104 4105 4106 | 4D4F 06 00000002 05 4107 4108 4109 410A 410B | 4D4F 06 00000002 05 410C 410D 410E 410F 4110 | 4D4F 06 00000002 05 4111 4112 4113 4114 4115 | 4D4F 06 00000002 03 4116 4117 4118
 ? 40 01 #17
-? 41 10 #17
-4D45 04 00000002 02 0102 10 4101 4102 4103 4104 4105 4106 4107 4108 4109 410A 410B 410C 410D 410E 410F 4110 | 4D4F 05 00000002 05 4101 4102 4103 4104 4105 | 4D4F 05 00000002 05 4106 4107 4108 4109 410A | 4D4F 05 00000002 05 410B 410C 410D 410E 410F | 4D4F 05 00000002 01 4110
+? 41 18 #17
+4D45 04 00000002 02 0102 18 4101 4102 4103 4104 4105 4106 4107 4108 4109 410A 410B 410C 410D 410E 410F 4110 4111 4112 4113 4114 4115 4116 4117 4118 | 4D4F 05 00000002 05 4101 4102 4103 4104 4105 | 4D4F 05 00000002 05 4106 4107 4108 4109 410A | 4D4F 05 00000002 05 410B 410C 410D 410E 410F | 4D4F 05 00000002 05 4110 4111 4112 4113 4114 | 4D4F 05 00000002 04 4115 4116 4117 4118
 ? 40 01 #17
-? 41 10 2 0102
+? 41 18 2 0102
 4D45 04 00000002 01 0101 06 4001 4002 4003 4004 4005 4006 | 4D4F 05 00000002 05 4001 4002 4003 4004 4005 | 4D4F 05 00000002 01 4006
-4D45 02 00000000 03 | ASK 1-2 3 | 4D4F 06 00000003 05 4001 4002 4003 4004 4005 | 4D4F 06 00000003 05 4006 4101 4102 4103 4104 | 4D4F 06 00000003 05 4105 4106 4107 4108 4109 | 4D4F 06 00000003 05 410A 410B 410C 410D 410E | 4D4F 06 00000003 02 410F 4110"),
+4D45 02 00000000 03 | ASK 1-2 3 | 4D4F 06 00000003 05 4001 4002 4003 4004 4005 | 4D4F 06 00000003 05 4006 4101 4102 4103 4104 | 4D4F 06 00000003 05 4105 4106 4107 4108 4109 | 4D4F 06 00000003 05 410A 410B 410C 410D 410E | 4D4F 06 00000003 05 410F 4110 4111 4112 4113 | 4D4F 06 00000003 05 4114 4115 4116 4117 4118"),
     Vector("Edge: a re-plug in OK at L = 45 ", 45, "
 4D45 01 00000000 03 | ASK 1-2 1
-4D45 04 00000001 01 0101 10 4001 4002 4003 4004 4005 4006 4007 4008 4009 400A 400B 400C 400D 400E 400F 4010
-4D45 04 00000001 02 0102 10 4101 4102 4103 4104 4105 4106 4107 4108 4109 410A 410B 410C 410D 410E 410F 4110 | 4D4F 03 00000001
-4D45 02 00000000 02 | ASK 1-1 2 | 4D4F 06 00000002 16 4001 4002 4003 4004 4005 4006 4007 4008 4009 400A 400B 400C 400D 400E 400F 4010 4101 4102 4103 4104 4105 4106 | 4D4F 06 00000002 0A 4107 4108 4109 410A 410B 410C 410D 410E 410F 4110
-4D45 04 00000002 01 0101 10 4101 4102 4103 4104 4105 4106 4107 4108 4109 410A 410B 410C 410D 410E 410F 4110 | 4D4F 05 00000002 10 4101 4102 4103 4104 4105 4106 4107 4108 4109 410A 410B 410C 410D 410E 410F 4110"),
+4D45 04 00000001 01 0101 18 4001 4002 4003 4004 4005 4006 4007 4008 4009 400A 400B 400C 400D 400E 400F 4010 4011 4012 4013 4014 4015 4016 4017 4018
+4D45 04 00000001 02 0102 18 4101 4102 4103 4104 4105 4106 4107 4108 4109 410A 410B 410C 410D 410E 410F 4110 4111 4112 4113 4114 4115 4116 4117 4118 | 4D4F 03 00000001
+4D45 02 00000000 02 | ASK 1-1 2 | 4D4F 06 00000002 16 4001 4002 4003 4004 4005 4006 4007 4008 4009 400A 400B 400C 400D 400E 400F 4010 4011 4012 4013 4014 4015 4016 | 4D4F 06 00000002 16 4017 4018 4101 4102 4103 4104 4105 4106 4107 4108 4109 410A 410B 410C 410D 410E 410F 4110 4111 4112 4113 4114 | 4D4F 06 00000002 04 4115 4116 4117 4118
+4D45 04 00000002 01 0101 18 4101 4102 4103 4104 4105 4106 4107 4108 4109 410A 410B 410C 410D 410E 410F 4110 4111 4112 4113 4114 4115 4116 4117 4118 | 4D4F 05 00000002 16 4101 4102 4103 4104 4105 4106 4107 4108 4109 410A 410B 410C 410D 410E 410F 4110 4111 4112 4113 4114 4115 4116 | 4D4F 05 00000002 02 4117 4118"),
     Vector("Edge: a re-plug in OK, one order over rows ", 12, "
 4D45 01 00000000 07 | ASK 1-6 1
 4D45 04 00000001 06 0300 00 | 4D4F 04 00000002 | ASK 1-6 2
@@ -572,31 +586,71 @@ fn room_8191_is_refused_and_8192_is_enough() {
     assert_eq!(ring.record(&bytes("4D45 03 00000000 00"), &mut room), Ok(0));
 }
 
-/// 63 ASKs, then 1,008 pairs, five in an order: 504 + 202 * 8 + 2,016 bytes.
-#[test]
-fn the_largest_event_is_4136_bytes() {
-    let mut ring = Ring::fresh(12).expect("a good L");
-    play_line(&mut ring, "4D45 01 00000000 40 | ASK 1-63 1");
-    let pairs =
-        |position: u8| (1..=16).map(|number| format!("{:02X}{number:02X}", 0x10 + position)).collect::<Vec<_>>();
-    for position in 1..=63 {
-        let ok = if position == 63 { "| 4D4F 03 00000001" } else { "" };
-        let list = pairs(position).join(" ");
-        play_line(&mut ring, &format!("4D45 04 00000001 {position:02X} 01{position:02X} 10 {list} {ok}"));
-    }
-    let listed: Vec<String> = (1..=63).flat_map(pairs).collect();
-    let told = |pass: &str| -> String {
-        let order = |chunk: &[String]| format!(" | 4D4F 06 {pass} {:02X} {}", chunk.len(), chunk.join(" "));
-        listed.chunks(5).map(order).collect()
+/// The pairs from `first` to `last` of one block.
+fn run(block: u8, first: u8, last: u8) -> Vec<String> {
+    (first..=last).map(|number| format!("{block:02X}{number:02X}")).collect()
+}
+
+/// An ANSWER in pass 1 of the unit at this position, whose address ends in the position.
+fn announced(position: u8, pairs: &[String]) -> String {
+    format!("4D45 04 00000001 {position:02X} 01{position:02X} {:02X} {}", pairs.len(), pairs.join(" "))
+}
+
+/// Orders that tell these pairs, so many in each, with a bar in front of each.
+fn told(kind: u8, pass: u32, pairs: &[String], sizes: &[usize]) -> String {
+    assert_eq!(sizes.iter().sum::<usize>(), pairs.len());
+    let mut rest = pairs;
+    let mut order = |size: usize| {
+        let (first, others) = rest.split_at(size);
+        rest = others;
+        format!(" | 4D4F {kind:02X} {pass:08X} {size:02X} {}", first.join(" "))
     };
+    sizes.iter().map(|&size| order(size)).collect()
+}
+
+/// The greatest ring in OK: 63 rows of 24 pairs, a block for each row.
+fn greatest_ring(l: u32) -> (Ring, Vec<String>) {
+    let mut ring = Ring::fresh(l).expect("a good L");
+    play_line(&mut ring, "4D45 01 00000000 40 | ASK 1-63 1");
+    for position in 1..=63 {
+        let ok = if position == 63 { " | 4D4F 03 00000001" } else { "" };
+        play_line(&mut ring, &(announced(position, &run(0x10 + position, 1, 24)) + ok));
+    }
+    let listed = (1..=63).flat_map(|position| run(0x10 + position, 1, 24)).collect();
+    (ring, listed)
+}
+
+#[test]
+fn the_largest_listing_has_1512_entries() {
+    let (ring, _) = greatest_ring(12);
+    let entries = listed(&ring);
+    assert_eq!(entries.len(), 1512);
+    assert_eq!(entries[0], (1, 0x101, 0x11, 1));
+    assert_eq!(entries[23..25], [(1, 0x101, 0x11, 24), (2, 0x102, 0x12, 1)]);
+    assert_eq!(entries[1511], (63, 0x13F, 0x4F, 24));
+    look_up_line(&ring, "11 01 1 0101");
+    look_up_line(&ring, "4F 18 63 013F");
+    look_up_line(&ring, "4F 19 #17");
+}
+
+/// 63 ASKs, then 1,512 pairs, five in an order: 504 + 303 * 8 + 3,024 bytes.
+#[test]
+fn the_largest_event_is_5952_bytes() {
+    let (mut ring, listed) = greatest_ring(12);
     let mut room = [0xAA; 8192];
     let nce = bytes("4D45 02 00000000 40");
-    assert_eq!(ring.clone().record(&nce, &mut room), Ok(4136));
-    assert_eq!(room[4122..4136], bytes("4D4F 06 00000002 03 4F0E 4F0F 4F10"));
-    assert!(room[4136..].iter().all(|&byte| byte == 0xAA));
-    play_line(&mut ring.clone(), &format!("4D45 02 00000000 40 | ASK 1-63 2 {}", told("00000002")));
-    play_line(&mut ring.clone(), &format!("4D45 02 00000000 02 | ASK 1-1 2 {}", told("00000002")));
-    play_line(&mut ring, &format!("4D45 02 00000000 01 {}", told("00000002")));
+    assert_eq!(ring.clone().record(&nce, &mut room), Ok(5952));
+    assert_eq!(room[..8], bytes("4D4F 01 00000002 01"));
+    assert_eq!(room[496..504], bytes("4D4F 01 00000002 3F"));
+    assert_eq!(room[504..522], bytes("4D4F 06 00000002 05 1101 1102 1103 1104 1105"));
+    assert_eq!(room[576..594], bytes("4D4F 06 00000002 05 1115 1116 1117 1118 1201"));
+    assert_eq!(room[5922..5940], bytes("4D4F 06 00000002 05 4F12 4F13 4F14 4F15 4F16"));
+    assert_eq!(room[5940..5952], bytes("4D4F 06 00000002 02 4F17 4F18"));
+    assert!(room[5952..].iter().all(|&byte| byte == 0xAA));
+    let told = told(6, 2, &listed, &[&[5; 302][..], &[2]].concat());
+    play_line(&mut ring.clone(), &format!("4D45 02 00000000 40 | ASK 1-63 2 {told}"));
+    play_line(&mut ring.clone(), &format!("4D45 02 00000000 02 | ASK 1-1 2 {told}"));
+    play_line(&mut ring, &format!("4D45 02 00000000 01 {told}"));
     assert_eq!((ring.state(), ring.open_questions(), ring.listing().len()), (State::Ok, 0, 0));
 }
 
@@ -636,13 +690,21 @@ fn a_re_plug_in_ok_at_the_last_pass() {
     assert_eq!(listed(&ring), [(1, 0x101, 0x22, 1)]);
 }
 
+/// Each count with its own length, and with a pair more or less; 2 comes before 3 and 5.
 #[test]
-fn count_17_is_refused() {
-    let mut ring = Ring::fresh(12).expect("a good L");
-    play_line(&mut ring, "4D45 01 00000000 02 | ASK 1-1 1");
-    let pairs: String = (1..=17).map(|number| format!("40{number:02X}")).collect();
-    play_line(&mut ring, &format!("4D45 04 00000001 01 0101 11 {pairs} | #2"));
-    play_line(&mut ring, &format!("4D45 04 00000001 01 0101 10 {} | 4D4F 03 00000001", &pairs[..64]));
+fn count_25_is_refused() {
+    let ring = play(&Vector("", 12, "4D45 01 00000000 02 | ASK 1-1 1"));
+    let pairs = run(0x40, 1, 254);
+    for (count, length) in (0..=254).flat_map(|count: usize| (0..=254).map(move |length| (count, length))) {
+        let record = |pass: u8| format!("4D45 04 000000{pass:02X} 01 0101 {count:02X} {}", pairs[..length].join(" "));
+        let fits = count <= 24 && length == count;
+        let answer = |taken| if fits { taken } else { "#2" };
+        if length.abs_diff(count) < 2 || length.abs_diff(24) < 2 {
+            play_line(&mut ring.clone(), &format!("{} | {}", record(1), answer("4D4F 03 00000001")));
+            play_line(&mut ring.clone(), &format!("{} | {}", record(2), answer("#5")));
+            play_line(&mut Ring::default(), &format!("{} | {}", record(1), answer("#3")));
+        }
+    }
 }
 
 #[test]

@@ -432,6 +432,81 @@ const VECTORS: &[Vector] = &[
 4D45 01 00000000 02 | ASK 1-1 3
 ? 22 01 #18
 4D45 05 00000003 01 | 4D4F 03 00000003 | 4D4F 07 00000003"),
+    Vector("Edge: a row of 24 pairs at L = 12", 12, "
+4D45 01 00000000 02 | ASK 1-1 1
+4D45 04 00000001 01 0101 00 | 4D4F 03 00000001
+4D45 04 00000001 01 0101 18 4001 4002 4003 4004 4005 4006 4007 4008 4009 400A 400B 400C 400D 400E 400F 4010 4011 4012 4013 4014 4015 4016 4017 4018 | 4D4F 05 00000001 05 4001 4002 4003 4004 4005 | 4D4F 05 00000001 05 4006 4007 4008 4009 400A | 4D4F 05 00000001 05 400B 400C 400D 400E 400F | 4D4F 05 00000001 05 4010 4011 4012 4013 4014 | 4D4F 05 00000001 04 4015 4016 4017 4018
+4D45 04 00000001 01 0101 11 4008 4009 400A 400B 400C 400D 400E 400F 4010 4011 4012 4013 4014 4015 4016 4017 4018 | 4D4F 06 00000001 05 4001 4002 4003 4004 4005 | 4D4F 06 00000001 02 4006 4007
+4D45 04 00000001 01 0101 12 4101 4102 4103 4104 4105 4106 4107 4108 4109 410A 410B 410C 410D 410E 410F 4110 4111 4112 | 4D4F 06 00000001 05 4008 4009 400A 400B 400C | 4D4F 06 00000001 05 400D 400E 400F 4010 4011 | 4D4F 06 00000001 05 4012 4013 4014 4015 4016 | 4D4F 06 00000001 02 4017 4018 | 4D4F 05 00000001 05 4101 4102 4103 4104 4105 | 4D4F 05 00000001 05 4106 4107 4108 4109 410A | 4D4F 05 00000001 05 410B 410C 410D 410E 410F | 4D4F 05 00000001 03 4110 4111 4112
+4D45 04 00000001 01 0101 15 4101 4102 4103 4104 4105 4106 4107 4108 4109 410A 410B 410C 410D 410E 410F 4110 4111 4112 4113 4114 4115 | 4D4F 05 00000001 03 4113 4114 4115
+4D45 04 00000001 01 0101 00 | 4D4F 06 00000001 05 4101 4102 4103 4104 4105 | 4D4F 06 00000001 05 4106 4107 4108 4109 410A | 4D4F 06 00000001 05 410B 410C 410D 410E 410F | 4D4F 06 00000001 05 4110 4111 4112 4113 4114 | 4D4F 06 00000001 01 4115"),
+    Vector("Edge: rows of 22, 23 and 24 pairs at L = 45", 45, "
+4D45 01 00000000 02 | ASK 1-1 1
+4D45 04 00000001 01 0101 00 | 4D4F 03 00000001
+4D45 04 00000001 01 0101 16 4001 4002 4003 4004 4005 4006 4007 4008 4009 400A 400B 400C 400D 400E 400F 4010 4011 4012 4013 4014 4015 4016 | 4D4F 05 00000001 16 4001 4002 4003 4004 4005 4006 4007 4008 4009 400A 400B 400C 400D 400E 400F 4010 4011 4012 4013 4014 4015 4016
+4D45 04 00000001 01 0101 00 | 4D4F 06 00000001 16 4001 4002 4003 4004 4005 4006 4007 4008 4009 400A 400B 400C 400D 400E 400F 4010 4011 4012 4013 4014 4015 4016
+4D45 04 00000001 01 0101 17 4001 4002 4003 4004 4005 4006 4007 4008 4009 400A 400B 400C 400D 400E 400F 4010 4011 4012 4013 4014 4015 4016 4017 | 4D4F 05 00000001 16 4001 4002 4003 4004 4005 4006 4007 4008 4009 400A 400B 400C 400D 400E 400F 4010 4011 4012 4013 4014 4015 4016 | 4D4F 05 00000001 01 4017
+4D45 04 00000001 01 0101 18 4101 4102 4103 4104 4105 4106 4107 4108 4109 410A 410B 410C 410D 410E 410F 4110 4111 4112 4113 4114 4115 4116 4117 4118 | 4D4F 06 00000001 16 4001 4002 4003 4004 4005 4006 4007 4008 4009 400A 400B 400C 400D 400E 400F 4010 4011 4012 4013 4014 4015 4016 | 4D4F 06 00000001 01 4017 | 4D4F 05 00000001 16 4101 4102 4103 4104 4105 4106 4107 4108 4109 410A 410B 410C 410D 410E 410F 4110 4111 4112 4113 4114 4115 4116 | 4D4F 05 00000001 02 4117 4118
+4D45 04 00000001 01 0101 18 4101 4102 4103 4104 4105 4106 4107 4108 4109 410A 410B 410C 410D 410E 410F 4110 4111 4112 4113 4114 4115 4116 4117 4100 | 4D4F 06 00000001 01 4118 | 4D4F 02 00000001 01 0101 41 00 18
+4D45 05 00000001 01 | 4D4F 06 00000001 16 4101 4102 4103 4104 4105 4106 4107 4108 4109 410A 410B 410C 410D 410E 410F 4110 4111 4112 4113 4114 4115 4116 | 4D4F 06 00000001 01 4117 | 4D4F 07 00000001"),
+    Vector("A head unit with 24 blocks", 12, "
+4D45 01 00000000 04 | ASK 1-3 1
+4D45 04 00000001 01 0101 02 2201 3102
+4D45 04 00000001 03 0103 01 5001
+4D45 04 00000001 02 0102 18 0501 0601 1001 1101 1201 1301 2001 2101 2201 2301 2401 2801 3001 3101 3401 4001 4101 4201 4301 5001 5101 5201 6001 6101 | 4D4F 02 00000001 02 0102 22 01 02
+4D45 04 00000001 02 0102 18 0501 0601 1001 1101 1201 1301 2001 2101 2202 2301 2401 2801 3001 3101 3401 4001 4101 4201 4301 5001 5101 5201 6001 6101 | 4D4F 02 00000001 02 0102 50 01 02
+4D45 04 00000001 02 0102 18 0501 0601 1001 1101 1201 1301 2001 2101 2202 2301 2401 2801 3001 3101 3401 4001 4101 4201 4301 5002 5101 5201 6001 6101 | 4D4F 03 00000001
+? 22 01 1 0101
+? 22 02 2 0102
+? 31 01 2 0102
+? 50 01 3 0103
+? 50 02 2 0102
+? 05 01 2 0102
+? 61 01 2 0102
+? 61 02 #17
+4D45 02 00000000 04 | ASK 1-3 2 | 4D4F 06 00000002 05 2201 3102 0501 0601 1001 | 4D4F 06 00000002 05 1101 1201 1301 2001 2101 | 4D4F 06 00000002 05 2202 2301 2401 2801 3001 | 4D4F 06 00000002 05 3101 3401 4001 4101 4201 | 4D4F 06 00000002 05 4301 5002 5101 5201 6001 | 4D4F 06 00000002 02 6101 5001
+? 61 01 #17
+4D45 04 00000002 02 0102 18 0501 0601 1001 1101 1201 1301 2001 2101 2202 2301 2401 2801 3001 3101 3401 4001 4101 4201 4301 5002 5101 5201 6001 6101 | 4D4F 05 00000002 05 0501 0601 1001 1101 1201 | 4D4F 05 00000002 05 1301 2001 2101 2202 2301 | 4D4F 05 00000002 05 2401 2801 3001 3101 3401 | 4D4F 05 00000002 05 4001 4101 4201 4301 5002 | 4D4F 05 00000002 04 5101 5201 6001 6101
+? 61 01 2 0102
+4D45 04 00000002 01 0101 02 2201 3102 | 4D4F 05 00000002 02 2201 3102
+4D45 05 00000002 03 | 4D4F 07 00000002
+4D45 04 00000002 02 0102 18 0501 0601 1001 1101 1201 1301 2001 2101 2202 2301 2401 2801 3001 3101 3401 4001 4101 4201 4301 5001 5101 5201 6001 6101 | 4D4F 06 00000002 01 5002 | 4D4F 05 00000002 01 5001
+? 50 01 2 0102"),
+    Vector("None of the 254 numbers is free in two blocks", 12, "
+4D45 01 00000000 19 | ASK 1-24 1
+4D45 04 00000001 01 0101 18 2201 2202 2203 2204 2205 2206 2207 2208 2209 220A 220B 220C 220D 220E 220F 2210 2211 2212 2213 2214 2215 2216 2217 2218
+4D45 04 00000001 02 0102 18 2219 221A 221B 221C 221D 221E 221F 2220 2221 2222 2223 2224 2225 2226 2227 2228 2229 222A 222B 222C 222D 222E 222F 2230
+4D45 04 00000001 03 0103 18 2231 2232 2233 2234 2235 2236 2237 2238 2239 223A 223B 223C 223D 223E 223F 2240 2241 2242 2243 2244 2245 2246 2247 2248
+4D45 04 00000001 04 0104 18 2249 224A 224B 224C 224D 224E 224F 2250 2251 2252 2253 2254 2255 2256 2257 2258 2259 225A 225B 225C 225D 225E 225F 2260
+4D45 04 00000001 05 0105 18 2261 2262 2263 2264 2265 2266 2267 2268 2269 226A 226B 226C 226D 226E 226F 2270 2271 2272 2273 2274 2275 2276 2277 2278
+4D45 04 00000001 06 0106 18 2279 227A 227B 227C 227D 227E 227F 2280 2281 2282 2283 2284 2285 2286 2287 2288 2289 228A 228B 228C 228D 228E 228F 2290
+4D45 04 00000001 07 0107 18 2291 2292 2293 2294 2295 2296 2297 2298 2299 229A 229B 229C 229D 229E 229F 22A0 22A1 22A2 22A3 22A4 22A5 22A6 22A7 22A8
+4D45 04 00000001 08 0108 18 22A9 22AA 22AB 22AC 22AD 22AE 22AF 22B0 22B1 22B2 22B3 22B4 22B5 22B6 22B7 22B8 22B9 22BA 22BB 22BC 22BD 22BE 22BF 22C0
+4D45 04 00000001 09 0109 18 22C1 22C2 22C3 22C4 22C5 22C6 22C7 22C8 22C9 22CA 22CB 22CC 22CD 22CE 22CF 22D0 22D1 22D2 22D3 22D4 22D5 22D6 22D7 22D8
+4D45 04 00000001 0A 010A 18 22D9 22DA 22DB 22DC 22DD 22DE 22DF 22E0 22E1 22E2 22E3 22E4 22E5 22E6 22E7 22E8 22E9 22EA 22EB 22EC 22ED 22EE 22EF 22F0
+4D45 04 00000001 0B 010B 18 22F1 22F2 22F3 22F4 22F5 22F6 22F7 22F8 22F9 22FA 22FB 22FC 22FD 22FE 2301 2302 2303 2304 2305 2306 2307 2308 2309 230A
+4D45 04 00000001 0C 010C 18 230B 230C 230D 230E 230F 2310 2311 2312 2313 2314 2315 2316 2317 2318 2319 231A 231B 231C 231D 231E 231F 2320 2321 2322
+4D45 04 00000001 0D 010D 18 2323 2324 2325 2326 2327 2328 2329 232A 232B 232C 232D 232E 232F 2330 2331 2332 2333 2334 2335 2336 2337 2338 2339 233A
+4D45 04 00000001 0E 010E 18 233B 233C 233D 233E 233F 2340 2341 2342 2343 2344 2345 2346 2347 2348 2349 234A 234B 234C 234D 234E 234F 2350 2351 2352
+4D45 04 00000001 0F 010F 18 2353 2354 2355 2356 2357 2358 2359 235A 235B 235C 235D 235E 235F 2360 2361 2362 2363 2364 2365 2366 2367 2368 2369 236A
+4D45 04 00000001 10 0110 18 236B 236C 236D 236E 236F 2370 2371 2372 2373 2374 2375 2376 2377 2378 2379 237A 237B 237C 237D 237E 237F 2380 2381 2382
+4D45 04 00000001 11 0111 18 2383 2384 2385 2386 2387 2388 2389 238A 238B 238C 238D 238E 238F 2390 2391 2392 2393 2394 2395 2396 2397 2398 2399 239A
+4D45 04 00000001 12 0112 18 239B 239C 239D 239E 239F 23A0 23A1 23A2 23A3 23A4 23A5 23A6 23A7 23A8 23A9 23AA 23AB 23AC 23AD 23AE 23AF 23B0 23B1 23B2
+4D45 04 00000001 13 0113 18 23B3 23B4 23B5 23B6 23B7 23B8 23B9 23BA 23BB 23BC 23BD 23BE 23BF 23C0 23C1 23C2 23C3 23C4 23C5 23C6 23C7 23C8 23C9 23CA
+4D45 04 00000001 14 0114 18 23CB 23CC 23CD 23CE 23CF 23D0 23D1 23D2 23D3 23D4 23D5 23D6 23D7 23D8 23D9 23DA 23DB 23DC 23DD 23DE 23DF 23E0 23E1 23E2
+4D45 04 00000001 15 0115 18 23E3 23E4 23E5 23E6 23E7 23E8 23E9 23EA 23EB 23EC 23ED 23EE 23EF 23F0 23F1 23F2 23F3 23F4 23F5 23F6 23F7 23F8 23F9 23FA
+4D45 04 00000001 16 0116 04 23FB 23FC 23FD 23FE
+4D45 04 00000001 17 0117 05 2200 23FF 2201 23FE 3100 | 4D4F 02 00000001 17 0117 31 00 01
+4D45 04 00000001 17 0117 05 2200 23FF 2201 23FE 3101
+4D45 04 00000001 18 0118 02 2300 2200 | 4D4F 03 00000001
+4D45 04 00000001 16 0116 03 23FB 23FC 23FD | 4D4F 06 00000001 01 23FE
+4D45 04 00000001 17 0117 04 2200 2300 3101 2400 | 4D4F 02 00000001 17 0117 23 00 FE
+4D45 04 00000001 18 0118 02 22FF 2300 | 4D4F 02 00000001 18 0118 23 00 FE
+4D45 04 00000001 18 0118 02 22FF 23FE | 4D4F 05 00000001 01 23FE
+4D45 04 00000001 17 0117 04 2200 2300 3101 2400 | 4D4F 02 00000001 17 0117 24 00 01
+4D45 04 00000001 17 0117 04 2200 2300 3101 2401 | 4D4F 05 00000001 01 2401
+? 23 FE 24 0118
+? 24 01 23 0117"),
 ];
 
 fn bytes(hex: &str) -> Vec<u8> {
@@ -652,6 +727,179 @@ fn the_largest_event_is_5952_bytes() {
     play_line(&mut ring.clone(), &format!("4D45 02 00000000 02 | ASK 1-1 2 {told}"));
     play_line(&mut ring, &format!("4D45 02 00000000 01 {told}"));
     assert_eq!((ring.state(), ring.open_questions(), ring.listing().len()), (State::Ok, 0, 0));
+}
+
+/// The same at other L: 252 orders of six pairs, 72 of 21, or 68 of 22 and one of 16.
+#[test]
+fn the_largest_listing_is_told_at_each_l() {
+    let sixes = [6; 252];
+    for (l, sizes, length) in [
+        (13, &sixes[..], 504 + 252 * 8 + 3024),
+        (14, &sixes, 504 + 252 * 8 + 3024),
+        (44, &[21; 72], 504 + 72 * 8 + 3024),
+        (45, &[&[22; 68][..], &[16]].concat(), 504 + 69 * 8 + 3024),
+    ] {
+        let (mut ring, listed) = greatest_ring(l);
+        assert_eq!(ring.clone().record(&bytes("4D45 02 00000000 40"), &mut [0; 8192]), Ok(length));
+        play_line(&mut ring, &format!("4D45 02 00000000 40 | ASK 1-63 2 {}", told(6, 2, &listed, sizes)));
+    }
+}
+
+/// A row of each length is new as a whole, changes into another one, and is lost.
+#[test]
+fn packing_of_rows_of_17_to_24_pairs() {
+    let packed: [(&[u32], [&[usize]; 8]); 4] = [
+        (
+            &[12],
+            [
+                &[5, 5, 5, 2],
+                &[5, 5, 5, 3],
+                &[5, 5, 5, 4],
+                &[5, 5, 5, 5],
+                &[5, 5, 5, 5, 1],
+                &[5, 5, 5, 5, 2],
+                &[5, 5, 5, 5, 3],
+                &[5, 5, 5, 5, 4],
+            ],
+        ),
+        (
+            &[13, 14],
+            [
+                &[6, 6, 5],
+                &[6, 6, 6],
+                &[6, 6, 6, 1],
+                &[6, 6, 6, 2],
+                &[6, 6, 6, 3],
+                &[6, 6, 6, 4],
+                &[6, 6, 6, 5],
+                &[6, 6, 6, 6],
+            ],
+        ),
+        (&[43, 44], [&[17], &[18], &[19], &[20], &[21], &[21, 1], &[21, 2], &[21, 3]]),
+        (&[45], [&[17], &[18], &[19], &[20], &[21], &[22], &[22, 1], &[22, 2]]),
+    ];
+    for (l, rows) in packed.iter().flat_map(|(sizes, rows)| sizes.iter().map(move |&l| (l, rows))) {
+        for (count, &sizes) in (17..).zip(rows) {
+            let (first, other) = (run(0x40, 1, count), run(0x41, 1, count));
+            let mut ring = Ring::fresh(l).expect("a good L");
+            play_line(&mut ring, "4D45 01 00000000 02 | ASK 1-1 1");
+            play_line(&mut ring, "4D45 04 00000001 01 0101 00 | 4D4F 03 00000001");
+            play_line(&mut ring, &(announced(1, &first) + &told(5, 1, &first, sizes)));
+            let change = told(6, 1, &first, sizes) + &told(5, 1, &other, sizes);
+            play_line(&mut ring, &(announced(1, &other) + &change));
+            play_line(&mut ring.clone(), &(announced(1, &[]) + &told(6, 1, &other, sizes)));
+            let told = told(6, 2, &other, sizes);
+            play_line(&mut ring, &format!("4D45 02 00000000 02 | ASK 1-1 2 {told}"));
+        }
+    }
+}
+
+/// Blocks 22 to 26 have all 254 numbers: 52 rows of 24 pairs and one of 22.
+#[test]
+fn five_full_blocks() {
+    let mut ring = Ring::fresh(12).expect("a good L");
+    play_line(&mut ring, "4D45 01 00000000 40 | ASK 1-63 1");
+    let kept: Vec<String> = (0x22..=0x26).flat_map(|block| run(block, 1, 254)).collect();
+    assert_eq!(kept.len(), 1270);
+    for (position, pairs) in (1..).zip(kept.chunks(24)) {
+        play_line(&mut ring, &announced(position, pairs));
+    }
+    assert_eq!(ring.open_questions(), 10);
+    // The bad pairs of full blocks are left out; that of block 27 is renumbered.
+    play_line(
+        &mut ring,
+        "4D45 04 00000001 36 0136 08 2200 23FF 2401 25FE 2680 2201 2700 2600 | 4D4F 02 00000001 36 0136 27 00 01",
+    );
+    play_line(&mut ring, "4D45 04 00000001 36 0136 08 2200 23FF 2401 25FE 2680 2201 2701 2600");
+    assert_eq!(listed(&ring)[1270..], [(54, 0x136, 0x27, 1)]);
+    // 24 bad pairs of full blocks alone: no SET.
+    let bad: Vec<String> = (0..24).map(|index| format!("{:02X}00", 0x22 + index % 5)).collect();
+    play_line(&mut ring, &announced(55, &bad));
+    assert_eq!(ring.row(55).expect("a row").status(), Status::Listed { address: 0x137 });
+    for position in 56..=62 {
+        play_line(&mut ring, &announced(position, &[]));
+    }
+    // 2701 is kept, and 2702 to 2717 stand in this answer: 18 is the least free number.
+    let mut many = run(0x27, 2, 23);
+    many.extend(["2200".into(), "27FF".into()]);
+    play_line(&mut ring, &(announced(63, &many) + " | 4D4F 02 00000001 3F 013F 27 FF 18"));
+    many[23] = "2718".into();
+    play_line(&mut ring, &(announced(63, &many) + " | 4D4F 03 00000001"));
+    assert_eq!(ring.listing().len(), 1270 + 1 + 23);
+    // Row 53 gives up 26FE, the last number of the last full block; two units ask in all blocks, and one gets it.
+    let last = kept[52 * 24..].to_vec();
+    assert_eq!((last.len(), last[21].as_str()), (22, "26FE"));
+    play_line(&mut ring, &(announced(53, &last[..21]) + " | 4D4F 06 00000001 01 26FE"));
+    play_line(&mut ring, &(announced(55, &bad) + " | 4D4F 02 00000001 37 0137 26 00 FE"));
+    play_line(&mut ring, &(announced(56, &bad) + " | 4D4F 02 00000001 38 0138 26 00 FE"));
+    let mut obeys = bad.clone();
+    obeys[4] = "26FE".into();
+    play_line(&mut ring, &(announced(56, &obeys) + " | 4D4F 05 00000001 01 26FE"));
+    play_line(&mut ring, &announced(55, &bad));
+    assert_eq!((ring.state(), ring.open_questions(), ring.listing().len()), (State::Ok, 0, 1294));
+}
+
+/// A full ring of 1,512 entries with five full blocks: a row that drops its pairs frees them for itself alone.
+#[test]
+fn five_full_blocks_of_a_full_ring() {
+    let mut ring = Ring::fresh(12).expect("a good L");
+    play_line(&mut ring, "4D45 01 00000000 40 | ASK 1-63 1");
+    let kept: Vec<String> = (0x22..=0x27).flat_map(|block| run(block, 1, 254)).take(1512).collect();
+    for (position, pairs) in (1..).zip(kept.chunks(24)) {
+        let ok = if position == 63 { " | 4D4F 03 00000001" } else { "" };
+        play_line(&mut ring, &(announced(position, pairs) + ok));
+    }
+    assert_eq!(ring.listing().len(), 1512);
+    let lost = told(6, 1, &run(0x22, 1, 24), &[5, 5, 5, 5, 4]);
+    let record = "4D45 04 00000001 01 0101 05 2300 24FF 2200 2500 2700";
+    play_line(&mut ring, &format!("{record} {lost} | 4D4F 02 00000001 01 0101 22 00 01"));
+    let record = "4D45 04 00000001 01 0101 05 2300 24FF 2201 2500 2700";
+    let new = "4D4F 05 00000001 01 2201";
+    play_line(&mut ring, &format!("{record} | {new} | 4D4F 02 00000001 01 0101 27 00 F3"));
+    assert_eq!(ring.listing().len(), 1489);
+}
+
+/// A unit that refuses all SETs of its 24 bad pairs: 72 SETs in each pass, then an address out of range, and in the third
+/// pass a good one. OK comes with reply 73 * 3.
+#[test]
+fn the_stubborn_unit_reaches_ok_with_reply_219() {
+    let start = |ring: &mut Ring| play_line(ring, "4D45 01 00000000 02 | ASK 1-1 1");
+    let nce_in_notok = |ring: &mut Ring| {
+        play_line(ring, "4D45 01 00000000 02 | ASK 1-1 1");
+        play_line(ring, "4D45 02 00000000 02 | 4D4F 04 00000002 | ASK 1-1 2");
+    };
+    let nce_in_ok = |ring: &mut Ring| {
+        play_line(ring, "4D45 01 00000000 01 | 4D4F 03 00000001");
+        play_line(ring, "4D45 02 00000000 02 | ASK 1-1 2");
+    };
+    let scans: [(fn(&mut Ring), State); 3] =
+        [(start, State::NotOk), (nce_in_notok, State::NotOk), (nce_in_ok, State::Ok)];
+    let pairs: String = (0x30..0x48).map(|block| format!(" {block:02X}FF")).collect();
+    for (scan, first) in scans {
+        let mut ring = Ring::fresh(12).expect("a good L");
+        scan(&mut ring);
+        let mut replies = 0;
+        for round in 1..=3 {
+            let pass = ring.pass();
+            for set in 0..72 {
+                let orders = format!("4D4F 02 {pass:08X} 01 0101 {:02X} FF 01", 0x30 + set / 3);
+                play_line(&mut ring, &format!("4D45 04 {pass:08X} 01 0101 18 {pairs} | {orders}"));
+                replies += 1;
+                let state = if round == 1 { first } else { State::NotOk };
+                assert_eq!((ring.state(), ring.open_questions()), (state, 1), "after reply {replies}");
+            }
+            replies += 1;
+            if round < 3 {
+                let orders = format!("4D4F 04 {:08X} | ASK 1-1 {}", pass + 1, pass + 1);
+                play_line(&mut ring, &format!("4D45 04 {pass:08X} 01 0300 18 {pairs} | {orders}"));
+                assert_eq!((ring.state(), ring.open_questions()), (State::NotOk, 1), "after reply {replies}");
+            } else {
+                play_line(&mut ring, &format!("4D45 04 {pass:08X} 01 0101 18 {pairs} | 4D4F 03 {pass:08X}"));
+            }
+        }
+        assert_eq!((replies, ring.state(), ring.open_questions()), (219, State::Ok, 0));
+        assert!(ring.listing().is_empty());
+    }
 }
 
 #[test]

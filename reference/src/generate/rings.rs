@@ -1,5 +1,6 @@
 //! Rings that are played: models of units answer, and scenes lead the ring into every corner.
 
+mod many_pairs;
 mod noise;
 mod replugs;
 mod scenes;

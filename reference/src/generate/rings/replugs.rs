@@ -1,6 +1,6 @@
 //! The scenes of re-plugs: an NCE comes in OK, and the ring is asked anew while look-ups go on.
 
-use super::scenes::full_pair;
+use super::many_pairs::full_pair;
 use super::units::Unit;
 use super::{Habits, Play, Played, Stage};
 use crate::registry::{State, Status};

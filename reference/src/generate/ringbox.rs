@@ -4,7 +4,10 @@ use super::oddities::{odd_line, RINGBOX};
 use super::rings::{pair_near, Stage};
 use super::script::{Full, Script};
 use crate::registry::Ring;
-use crate::sizes::{BENCH_ROOM, MIN_ROOM};
+use crate::sizes::{BENCH_ROOM, MAX_LISTED, MIN_ROOM};
+
+/// Listings from this length on, that of a full block, are seldom shown.
+const LONG_LISTING: usize = 254;
 
 /// A script, the ring at its end and the order room that it lends.
 pub struct Writer {
@@ -82,7 +85,12 @@ impl Stage for Writer {
             let rows = self.script.random.chance(if small { 60 } else { 4 });
             self.script.command(if rows { "rows" } else { "state" });
         }
-        if self.script.random.chance(if small { 6 } else { 1 }) {
+        let listing = match self.ring.listing().len() {
+            _ if small => 60,
+            LONG_LISTING.. => 4,
+            _ => 10,
+        };
+        if self.script.random.below(1000) < listing {
             self.script.command("listing");
         }
         if self.script.random.chance(8) {
@@ -97,7 +105,12 @@ impl Stage for Writer {
     fn look_closely(&mut self) -> Result<(), Full> {
         self.script.go_on()?;
         self.script.command("rows");
-        if self.script.random.chance(30) {
+        let listing = match self.ring.listing().len() {
+            MAX_LISTED => 50,
+            LONG_LISTING.. => 12,
+            _ => 30,
+        };
+        if self.script.random.chance(listing) {
             self.script.command("listing");
         }
         for _ in 0..4 {

@@ -1,6 +1,6 @@
 //! The scenes of re-plugs: an NCE comes in OK, and the ring is asked anew while look-ups go on.
 
-use super::many_pairs::full_pair;
+use super::many_pairs::{first_blocks, full_pair, LAYOUTS};
 use super::units::Unit;
 use super::{Habits, Play, Played, Stage};
 use crate::registry::{State, Status};
@@ -58,12 +58,12 @@ impl<S: Stage> Play<'_, S> {
     /// Honest units whose pairs are all different: full rows, or half full ones among them.
     fn fill_rows(&mut self) {
         let fewest = self.random.pick(&[0, MAX_PAIRS / 2, MAX_PAIRS, MAX_PAIRS]);
-        let layout = self.random.below(3);
+        let layout = self.random.below(LAYOUTS);
         for (position, unit) in self.units.iter_mut().enumerate().skip(1) {
             let count = self.random.range(fewest, MAX_PAIRS);
             *unit = Unit::honest(position, (0..count).map(|index| full_pair(layout, position, index)).collect());
         }
-        self.taste.blocks = (1..MAX_NODES).map(|position| full_pair(layout, position, 0).block).collect();
+        self.taste.blocks = first_blocks(layout);
     }
 
     /// Some units refuse SETs, lie, fidget or are silent, but few of them lie.

@@ -12,23 +12,24 @@ const SHARED: &[u16] = &[0x0101, 0x02FF, 0x0102, 0x0103, 0x0100, 0x0300, 0x02FE,
 const OUT_OF_RANGE: &[u16] = &[0x0100, 0x0300, 0xFFFF, 0x0000];
 
 impl<S: Stage> Play<'_, S> {
-    pub const SCENES: [fn(&mut Self) -> Played<S>; 20] = [
+    pub const SCENES: [fn(&mut Self) -> Played<S>; 21] = [
         Self::mixed,
         Self::silences,
         Self::mixed,
         Self::addresses,
         Self::replugs,
         Self::quarrel,
-        Self::full_block,
+        Self::full_blocks,
         Self::mixed,
         Self::passes,
+        Self::head_units,
         Self::stubborn,
         Self::great_replugs,
         Self::full_ring,
         Self::quarrel,
         Self::packing,
         Self::silences,
-        Self::full_block,
+        Self::full_blocks,
         Self::damage,
         Self::quarrel,
         Self::replugs,
@@ -169,7 +170,7 @@ impl<S: Stage> Play<'_, S> {
 
     /// Units with many bad pairs that refuse, shorten, lengthen or shuffle.
     fn stubborn(&mut self) -> Played<S> {
-        let nodes = self.random.range(2, 6);
+        let nodes = self.random.pick(&[2, 2, 3, 4, 5, 6]);
         self.begin(Habits { nodes, noise: 30, ..Habits::default() }, MAX_PAIRS)?;
         self.taste.blocks.truncate(2);
         self.taste.low_numbers = true;
@@ -177,7 +178,8 @@ impl<S: Stage> Play<'_, S> {
         let most = random.pick(&[6, MAX_PAIRS]);
         for (position, unit) in self.units.iter_mut().enumerate() {
             let mut bad = || Pair { block: random.pick(&self.taste.blocks), number: random.pick(&[0, 1, 1, 2, 255]) };
-            let pairs = (0..1 + position * 7 % most).map(|_| bad()).collect();
+            let count = if position == 1 { most } else { 1 + position * 7 % most };
+            let pairs = (0..count).map(|_| bad()).collect();
             *unit = Unit {
                 obeys: random.pick(&[0, 0, 0, 30, 70, 100]),
                 fidgets: random.pick(&[0, 0, 15, 80]),

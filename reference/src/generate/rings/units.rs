@@ -93,7 +93,7 @@ pub struct Taste {
 
 impl Taste {
     pub fn any(random: &mut Random) -> Taste {
-        let count = random.pick(&[1, 1, 2, 3, 6, 20]);
+        let count = random.pick(&[1, 1, 2, 3, 6, MAX_PAIRS, 2 * MAX_PAIRS]);
         let mut blocks: Vec<u8> = (0..count).map(|_| random.range(0x02, 0xFE) as u8).collect();
         if random.chance(20) {
             blocks[0] = random.pick(&[0x02, 0xFE]);
@@ -119,11 +119,11 @@ impl Taste {
     }
 }
 
-/// Pairs of a full block that need other numbers.
-pub fn beggar(block: u8, most: usize, random: &mut Random) -> Vec<Pair> {
+/// Pairs of full blocks, and of one that is not full, that need other numbers.
+pub fn beggar(blocks: &[u8], most: usize, random: &mut Random) -> Vec<Pair> {
     let count = random.range(1, most);
     let mut one = || Pair {
-        block: if random.chance(80) { block } else { 0x77 },
+        block: if random.chance(80) { random.pick(blocks) } else { 0x77 },
         number: random.pick(&[0, 255, 1, 2, 128, 254, 60, 64, 192]),
     };
     (0..count).map(|_| one()).collect()

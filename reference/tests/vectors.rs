@@ -863,21 +863,17 @@ fn five_full_blocks_of_a_full_ring() {
 /// pass a good one. OK comes with reply 73 * 3.
 #[test]
 fn the_stubborn_unit_reaches_ok_with_reply_219() {
-    let start = |ring: &mut Ring| play_line(ring, "4D45 01 00000000 02 | ASK 1-1 1");
-    let nce_in_notok = |ring: &mut Ring| {
-        play_line(ring, "4D45 01 00000000 02 | ASK 1-1 1");
-        play_line(ring, "4D45 02 00000000 02 | 4D4F 04 00000002 | ASK 1-1 2");
-    };
-    let nce_in_ok = |ring: &mut Ring| {
-        play_line(ring, "4D45 01 00000000 01 | 4D4F 03 00000001");
-        play_line(ring, "4D45 02 00000000 02 | ASK 1-1 2");
-    };
-    let scans: [(fn(&mut Ring), State); 3] =
-        [(start, State::NotOk), (nce_in_notok, State::NotOk), (nce_in_ok, State::Ok)];
+    let start = "4D45 01 00000000 02 | ASK 1-1 1";
+    let nce_in_notok = "
+4D45 01 00000000 02 | ASK 1-1 1
+4D45 02 00000000 02 | 4D4F 04 00000002 | ASK 1-1 2";
+    let nce_in_ok = "
+4D45 01 00000000 01 | 4D4F 03 00000001
+4D45 02 00000000 02 | ASK 1-1 2";
+    let scans = [(start, State::NotOk), (nce_in_notok, State::NotOk), (nce_in_ok, State::Ok)];
     let pairs: String = (0x30..0x48).map(|block| format!(" {block:02X}FF")).collect();
     for (scan, first) in scans {
-        let mut ring = Ring::fresh(12).expect("a good L");
-        scan(&mut ring);
+        let mut ring = play(&Vector("", 12, scan));
         let mut replies = 0;
         for round in 1..=3 {
             let pass = ring.pass();

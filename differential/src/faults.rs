@@ -18,6 +18,11 @@ const PASSES_THE_LAST_PASS: u8 = 6;
 const SAYS_NOTOK_AT_A_RING_CHANGE: u8 = 7;
 const FORGETS_A_PAIR_AT_A_RING_CHANGE: u8 = 8;
 const TELLS_ROW_BY_ROW_AT_A_RING_CHANGE: u8 = 9;
+const REFUSES_A_FULL_ROW: u8 = 10;
+const CUTS_THE_LISTING: u8 = 11;
+
+/// A listing is cut here: as many entries as paper 01 had before rows of 24 pairs.
+const CUT: usize = 1_008;
 
 /// Mark, kind and pass of an order.
 fn head(kind: u8, pass: u32) -> Vec<u8> {
@@ -51,6 +56,9 @@ impl<const FAULT: u8> RingBox for Faulty<FAULT> {
 
     fn record(&mut self, bytes: &[u8], out: &mut [u8]) -> (u8, usize) {
         let met = self.0.show();
+        if FAULT == REFUSES_A_FULL_ROW && bytes.get(wire::COUNT) == Some(&(sizes::MAX_PAIRS as u8)) {
+            return (refusal::RECORD_MALFORMED, 0);
+        }
         let (number, length) = self.0.record(bytes, out);
         let pass = self.0.show().pass;
         let in_ok = number == lathepetal::DONE && met.state == lathepetal::OK && bytes[wire::KIND] == wire::NCE;
@@ -98,6 +106,9 @@ impl<const FAULT: u8> RingBox for Faulty<FAULT> {
         let mut listing = self.0.listing();
         if FAULT == LISTS_BEHIND_THE_COUNT && listing.count == 3 {
             listing.blocks[4] = 0x22;
+        }
+        if FAULT == CUTS_THE_LISTING {
+            listing.count = listing.count.min(CUT);
         }
         listing
     }
@@ -212,6 +223,14 @@ fn a_refusal() {
 #[test]
 fn a_listing() {
     is_short(Ringbox::new(), &ring_fault::<LISTS_BEHIND_THE_COUNT>(), ">", 3);
+}
+
+#[test]
+fn many_pairs() {
+    is_short(Ringbox::new(), &ring_fault::<REFUSES_A_FULL_ROW>(), ">", 2);
+    let found = ring_fault::<CUTS_THE_LISTING>();
+    is_short(Ringbox::new(), &found, ">", 1 + CUT / sizes::MAX_PAIRS + 1);
+    assert!(found.difference.what.starts_with("count of the listing"));
 }
 
 #[test]

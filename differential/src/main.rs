@@ -14,6 +14,7 @@ use std::process::ExitCode;
 use std::time::{Instant, SystemTime, UNIX_EPOCH};
 
 use boxes::{ProvedRing, ProvedTelegrams, STATUSES};
+use reference::sizes::MAX_PAIRS;
 use reference::{refusal, wire};
 use script::Found;
 
@@ -79,7 +80,8 @@ fn report(registry: &scenes::Tally, transport: &streams::Tally) {
         |names: &[&str], counts: &[usize]| -> String { names.iter().zip(counts).map(|(name, count)| format!(" {name} {count}")).collect() };
     let numbers = |counts: &[usize], from: u8, to: u8| -> String { (from..=to).map(|n| format!(" {n} {}", counts[n as usize])).collect() };
     let kinds = ["ASK", "SET", "OK", "NOTOK", "NEW", "INVALID", "WAIT SHORT", "WAIT LONG"];
-    eprintln!("{} sessions; at most {} pairs listed", registry.sessions, registry.listed);
+    eprintln!("{} sessions; {} listings compared, {} of them full", registry.sessions, registry.listings, registry.full_listings);
+    eprintln!("ANSWERs taken, by pairs:{}", numbers(&registry.answers, 0, MAX_PAIRS as u8));
     eprintln!("records by number:{}", numbers(&registry.numbers, 0, refusal::NO_PASS_LEFT));
     eprintln!("orders:{}", names(&kinds, &registry.orders[wire::ASK as usize..]));
     eprintln!("rows seen:{}", names(&STATUSES, &registry.rows));

@@ -258,8 +258,8 @@ impl<P: RingBox> Player<P> {
             .map_err(|difference| difference.shown_by(format!("lookup {block:02X} {number:02X}")))
     }
 
-    /// Compares the listing, the look-up of each listed pair, of its neighbours and of pairs at the edges.
-    pub fn compare_closely(&self) -> Result<(), Difference> {
+    /// Compares the listing, the look-up of each listed pair, of its neighbours and of pairs at the edges: how many pairs are listed.
+    pub fn compare_closely(&self) -> Result<usize, Difference> {
         let pairs = self.compare_listing()?;
         for &(block, number) in &pairs {
             self.compare_look_up(block, number)?;
@@ -269,7 +269,7 @@ impl<P: RingBox> Player<P> {
         for (block, number) in [(0, 0), (0, 1), (1, 1), (2, 1), (0x22, 0), (0x22, 0xFF), (0xFE, 0xFE), (0xFF, 0xFF)] {
             self.compare_look_up(block, number)?;
         }
-        Ok(())
+        Ok(pairs.len())
     }
 }
 

@@ -4,8 +4,8 @@ use reference::generate::rings::{pair_near, Play, Stage};
 use reference::generate::Random;
 use reference::refusal;
 use reference::registry::Ring;
-use reference::sizes::{MIN_ROOM, MIN_SIZE};
-use reference::wire::{self, INVALID, KIND, NCE, ORDER_KINDS, X};
+use reference::sizes::{MAX_LISTED, MAX_PAIRS, MIN_ROOM, MIN_SIZE};
+use reference::wire::{self, ANSWER, COUNT, INVALID, KIND, NCE, ORDER_KINDS, X};
 
 use crate::boxes::{RingBox, Shown, STATUSES};
 use crate::ring::{Player, Session, Step, MOST_ROOM};
@@ -22,10 +22,20 @@ pub struct Tally {
     pub orders: [usize; ORDER_KINDS as usize],
     /// By row status, over some of the pictures.
     pub rows: [usize; STATUSES.len()],
-    /// The most pairs listed at once.
-    pub listed: usize,
+    /// ANSWERs taken, by how many pairs they have.
+    pub answers: [usize; MAX_PAIRS + 1],
+    /// Listings compared: all, and those with every place filled.
+    pub listings: usize,
+    pub full_listings: usize,
     /// NCEs taken in OK.
     pub changes: Changes,
+}
+
+impl Tally {
+    fn count_listing(&mut self, listed: usize) {
+        self.listings += 1;
+        self.full_listings += usize::from(listed == MAX_LISTED);
+    }
 }
 
 /// NCEs taken in OK: all, those that told pairs, and those that came while a question was open, while a delay ran, and to fewer nodes.
@@ -148,6 +158,9 @@ impl<P: RingBox, F: FnMut(usize)> Stage for Both<'_, P, F> {
         self.count(number, &orders);
         if number == lathepetal::DONE {
             self.tally.changes.count(&met, record, &orders);
+            if record[KIND] == ANSWER {
+                self.tally.answers[record[COUNT] as usize] += 1;
+            }
         }
         Ok(orders)
     }
@@ -162,7 +175,8 @@ impl<P: RingBox, F: FnMut(usize)> Stage for Both<'_, P, F> {
         match self.random.below(200) {
             0 => self.look_closely(),
             1..=40 => {
-                self.tally.listed = self.tally.listed.max(self.player.compare_listing()?.len());
+                let listed = self.player.compare_listing()?.len();
+                self.tally.count_listing(listed);
                 self.look_up(12, blocks)
             }
             41..=100 => self.look_up(2, blocks),
@@ -171,6 +185,8 @@ impl<P: RingBox, F: FnMut(usize)> Stage for Both<'_, P, F> {
     }
 
     fn look_closely(&mut self) -> Result<(), Stop> {
-        Ok(self.player.compare_closely()?)
+        let listed = self.player.compare_closely()?;
+        self.tally.count_listing(listed);
+        Ok(())
     }
 }

@@ -46,6 +46,15 @@ troubled =
     ∷ withRoom 8 0x4D45_02_00000000_05
     ∷ []
 
+-- an amplifier, and a head unit of 24 blocks whose 19th pair the amplifier keeps too; both come to OK (ticket 8)
+abbrev pub headUnit : List Record
+headUnit =
+    withRoom 8 0x4D45_01_00000000_03
+    ∷ withRoom 15 0x4D45_04_00000001_01_0101_02_2201_3101
+    ∷ withRoom 59 0x4D45_04_00000001_02_0102_18_1001_1101_1201_1301_1401_1501_1601_1701_1801_1901_1A01_1B01_1C01_1D01_1E01_1F01_2001_2101_2201_2301_2401_2501_2601_2701
+    ∷ withRoom 59 0x4D45_04_00000001_02_0102_18_1001_1101_1201_1301_1401_1501_1601_1701_1801_1901_1A01_1B01_1C01_1D01_1E01_1F01_2001_2101_2202_2301_2401_2501_2601_2701
+    ∷ []
+
 unfoldable pub ringChanges : List Edge
 unfolding hex
 ringChanges =
@@ -337,4 +346,22 @@ ringChanges =
     ∷ refusal 1
     ∷ gives 8 0x4D4F_01_00000001_01
     ∷ []))
+    -- a head unit of 24 blocks at L = 45: its 19th pair is renumbered, and behind a ring change its pairs take two orders, 22 and 2
+    ∷ edge
+    (records 45
+    (headUnit
+    ++ withRoom 8 0x4D45_02_00000000_03
+    ∷ withRoom 59 0x4D45_04_00000002_02_0102_18_1001_1101_1201_1301_1401_1501_1601_1701_1801_1901_1A01_1B01_1C01_1D01_1E01_1F01_2001_2101_2202_2301_2401_2501_2601_2701
+    ∷ withRoom 15 0x4D45_04_00000002_01_0101_02_2201_3101
+    ∷ []))
+    (results
+    (gives 16 0x4D4F_01_00000001_01_4D4F_01_00000001_02
+    ∷ noOrders
+    ∷ gives 13 0x4D4F_02_00000001_02_0102_22_01_02
+    ∷ gives 7 0x4D4F_03_00000001
+    ∷ gives 84 0x4D4F_01_00000002_01_4D4F_01_00000002_02_4D4F_06_00000002_16_2201_3101_1001_1101_1201_1301_1401_1501_1601_1701_1801_1901_1A01_1B01_1C01_1D01_1E01_1F01_2001_2101_2202_2301_4D4F_06_00000002_04_2401_2501_2601_2701
+    ∷ gives 64 0x4D4F_05_00000002_16_1001_1101_1201_1301_1401_1501_1601_1701_1801_1901_1A01_1B01_1C01_1D01_1E01_1F01_2001_2101_2202_2301_2401_2501_4D4F_05_00000002_02_2601_2701
+    ∷ gives 12 0x4D4F_05_00000002_02_2201_3101
+    ∷ []))
+    ∷ edge (lookUpAfter 45 headUnit 0x27 0x01) (lookUp (found 2 0x0102))
     ∷ []

@@ -21,7 +21,7 @@ const TELLS_ROW_BY_ROW_AT_A_RING_CHANGE: u8 = 9;
 const REFUSES_A_FULL_ROW: u8 = 10;
 const CUTS_THE_LISTING: u8 = 11;
 
-/// A listing is cut here: as many entries as paper 01 had before rows of 24 pairs.
+/// A listing is cut here, at paper 01's number of entries, which ticket 8 raises.
 const CUT: usize = 1_008;
 
 /// Mark, kind and pass of an order.

@@ -1,16 +1,11 @@
 -- What is told of rows that keep what they kept: nothing. What is told where one row changes: what that row lost and gained.
 use Prim.Native.Nat.{ℕ, zero, suc, _<_}
 use mathlib.Core.Path.{_≡_, refl, _∙_, ap}
-use mathlib.Core.Bool.{Bool, true, false, cond, not, _&&_, _||_}
+use mathlib.Core.Bool.{Bool, true, false, cond, _&&_}
 use mathlib.Core.List.{List, [], _∷_, _++_, map, append-nil}
-use borrow.Author.Tests.{eq-eqb}
-use lib.Dec.{eqb}
 use native.Mathlib.Nat.{not-suc-le-zero, le-of-suc-le-suc}
 use lib.ListN.{length, getD, set}
-use Rattle.laws.specs.Lists.{any, select}
-use Rattle.laws.specs.Alls.{All, all-nil, all-cons, all-map}
-use Rattle.laws.specs.Bools.{or-true-right, and-true}
-use Rattle.rules.specs.Picture.{Pair, samePair, holds, isOk, Row, Status, WAITING, SETTING, LISTED, SILENT, IGNORED, Picture, withRows, withStatus, keptBy, pairsOf, pairsIn, isSilent, isSilentStatus}
+use Rattle.rules.specs.Picture.{Pair, isOk, Row, Status, WAITING, SETTING, LISTED, SILENT, IGNORED, Picture, withRows, withStatus, keptBy, pairsOf, pairsIn, isSilent, isSilentStatus}
 use Rattle.rules.specs.Order.{Order, NEW, INVALID}
 use Rattle.rules.specs.Step.{rowsSeparately, asked}
 use Rattle.rules.specs.Ending.{missing, packed, tell, lost, gained, tellRows, toldBy, told}

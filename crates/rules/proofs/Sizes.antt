@@ -10,10 +10,10 @@ use lib.Dec.{ltb}
 use lib.ListN.{length, take, drop, length-append, length-take, length-drop, replicate, length-replicate, length-map}
 use Rattle.laws.specs.Lists.{any, select, collect}
 use Rattle.laws.specs.Bools.{clash, decide, and-none, or-cases, cond-true, cond-false, or-true-left, or-true-right}
-use Rattle.laws.specs.Alls.{All, all-nil, all-cons, all-head, all-tail, all-map, all-seat, all-out, Pairwise, pairwise-head, pairwise-tail, pairwise-out, any-none}
+use Rattle.laws.specs.Alls.{All, all-head, all-tail, all-seat, all-out, Pairwise, pairwise-head, pairwise-tail, pairwise-out, any-none}
 use Rattle.laws.specs.Sums.{total, total-append}
 use Rattle.rules.specs.House.{minSize, maxNodes, maxUnits, maxPairs, maxEntries, maxSilences}
-use Rattle.rules.specs.Picture.{isNotOk, isOk, Pair, samePair, holds, Status, WAITING, SETTING, LISTED, SILENT, IGNORED, Row, Picture, withStatus, withRows, withState}
+use Rattle.rules.specs.Picture.{isNotOk, isOk, Pair, holds, Status, WAITING, SETTING, LISTED, SILENT, IGNORED, Row, Picture, withStatus, withRows, withState}
 use Rattle.rules.specs.Picture.{Kept, nothing, kept, keptBy, keptIn, pairsOf, pairsIn, hasAddress, keeps, isOpen, isOpenStatus, isSilent, isSilentStatus, newRow, Seat, seatAt, others, put}
 use Rattle.rules.specs.Listing.{entriesOf, entriesFrom, listing, listedPairs}
 use Rattle.rules.specs.Event.{Event, two, four}

@@ -1,24 +1,31 @@
 -- The listing is whole: for each position what its row keeps, by position.
 use Prim.Native.Nat.{ℕ, zero, suc, _+_, _≤_}
-use mathlib.Core.Path.{_≡_, refl, sym, _∙_, ap, ap₂, subst}
-use mathlib.Core.Bool.{Bool, true, false, cond}
+use mathlib.Core.Path.{_≡_, refl, _∙_, ap, ap₂}
+use mathlib.Core.Bool.{true, false}
 use mathlib.Core.List.{List, [], _∷_, _++_, map, append-nil}
 use native.Mathlib.Omega.{arith}
 use borrow.Author.Tests.{eq-eqb, ne-eqb}
-use lib.Dec.{eqb}
 use lib.ListN.{getD}
 use Rattle.laws.specs.Lists.{select}
-use Rattle.laws.specs.Alls.{All, all-nil, all-cons, all-append, all-map, all-both, all-mapped, all-of, Pairwise, pairwise-nil, pairwise-append, pairwise-always, select-append, select-all, select-none}
+use Rattle.laws.specs.Alls.{All, all-nil, all-append, all-map, all-both, all-mapped, all-of, Pairwise, pairwise-nil, pairwise-append, pairwise-always, select-append, select-all, select-none}
 use Rattle.rules.specs.Picture.{Pair, Row, Picture, Kept, nothing, kept, keptIn, keptBy, pairsOf, pairsIn, hasAddress, keeps, noRow, rowAt}
 use Rattle.rules.specs.Listing.{Entry, entry, entriesOf, entriesFrom, listing}
 use Rattle.rules.specs.Claims.{standsAt, WholeListing}
 
--- every entry of one row, whatever it has of position, address and pair
+-- an entry of rows from position n on has the address of its row; of two entries the first stands in front or at the same position
+abbrev Owned : ℕ → List Row → Entry → Type 0
+Owned n rows e = (i : ℕ) → e .position ≡ n + i → keeps (e .address) (getD rows i noRow) ≡ true
+
+abbrev NotBehind : Entry → Entry → Type 0
+NotBehind d e = d .position ≤ e .position
+
+-- what holds of every entry that a row may have holds of those that it has
 each-of : (P : Entry → Type 0) (x : ℕ) (k : Kept) → ((a : ℕ) (g : Pair) → hasAddress a k ≡ true → P (entry x a g)) → All P (entriesOf x k)
 unfolding entriesOf hasAddress
 each-of P x nothing h = all-nil
 each-of P x (kept a ps) h = all-mapped (entry x a) (all-of ps (λ g. h a g (eq-eqb a a refl)))
 
+-- their pairs are the row's
 own-pairs : (x : ℕ) (k : Kept) → map (λ (e : Entry). e .pair) (entriesOf x k) ≡ pairsOf k
 unfolding entriesOf pairsOf entry
 own-pairs x nothing = refl
@@ -58,35 +65,34 @@ stand-at n (suc i) (r ∷ rows) =
     ∙ ap₂ _++_ (select-none (standsAt (suc n + i)) (each-of (λ (e : Entry). standsAt (suc n + i) e ≡ false) n (keptIn r) (λ a g h. ne-eqb (suc n + i) n (λ q. omega (arith, q))))) (stand-at (suc n) i rows))
 
 -- each has the address of its row
-addresses-from : (n : ℕ) (rows : List Row)
-    → All (λ (e : Entry). (i : ℕ) → e .position ≡ n + i → keeps (e .address) (getD rows i noRow) ≡ true) (entriesFrom n rows)
+addresses-from : (n : ℕ) (rows : List Row) → All (Owned n rows) (entriesFrom n rows)
 unfolding entriesFrom entry keeps
 addresses-from n [] = all-nil
 addresses-from n (r ∷ rows) =
-    all-append (each-of (λ (e : Entry). (i : ℕ) → e .position ≡ n + i → keeps (e .address) (getD (r ∷ rows) i noRow) ≡ true) n (keptIn r) here)
+    all-append (each-of (Owned n (r ∷ rows)) n (keptIn r) here)
     (all-map behind (all-both (stand-behind (suc n) rows) (addresses-from (suc n) rows)))
   where
-    here : (a : ℕ) (g : Pair) → hasAddress a (keptIn r) ≡ true → (i : ℕ) → n ≡ n + i → keeps a (getD (r ∷ rows) i noRow) ≡ true
+    here : (a : ℕ) (g : Pair) → hasAddress a (keptIn r) ≡ true → Owned n (r ∷ rows) (entry n a g)
     here a g h zero e = h
     here a g h (suc i) e = absurd (omega (arith, e))
 
-    behind : (e : Entry) → (suc n ≤ e .position) × ((i : ℕ) → e .position ≡ suc n + i → keeps (e .address) (getD rows i noRow) ≡ true)
-        → (i : ℕ) → e .position ≡ n + i → keeps (e .address) (getD (r ∷ rows) i noRow) ≡ true
+    behind : (e : Entry) → (suc n ≤ e .position) × Owned (suc n) rows e → Owned n (r ∷ rows) e
     behind e h zero q = absurd (omega (arith, q, h .0))
     behind e h (suc i) q = h .1 i (omega (arith, q))
 
-ascend-from : (n : ℕ) (rows : List Row) → Pairwise (λ (d e : Entry). d .position ≤ e .position) (entriesFrom n rows)
+-- the positions ascend
+ascend-from : (n : ℕ) (rows : List Row) → Pairwise NotBehind (entriesFrom n rows)
 unfolding entriesFrom entriesOf entry
 ascend-from n [] = pairwise-nil
 ascend-from n (r ∷ rows) =
     pairwise-append (level (keptIn r)) (ascend-from (suc n) rows)
-    (each-of (λ (d : Entry). All (λ (e : Entry). d .position ≤ e .position) (entriesFrom (suc n) rows)) n (keptIn r) in-front)
+    (each-of (λ (d : Entry). All (NotBehind d) (entriesFrom (suc n) rows)) n (keptIn r) in-front)
   where
-    level : (k : Kept) → Pairwise (λ (d e : Entry). d .position ≤ e .position) (entriesOf n k)
+    level : (k : Kept) → Pairwise NotBehind (entriesOf n k)
     level nothing = pairwise-nil
-    level (kept a ps) = pairwise-always (λ (d e : Entry). d .position ≤ e .position) (entry n a) (λ x y. omega arith) ps
+    level (kept a ps) = pairwise-always NotBehind (entry n a) (λ x y. omega arith) ps
 
-    in-front : (a : ℕ) (g : Pair) → hasAddress a (keptIn r) ≡ true → All (λ (e : Entry). entry n a g .position ≤ e .position) (entriesFrom (suc n) rows)
+    in-front : (a : ℕ) (g : Pair) → hasAddress a (keptIn r) ≡ true → All (NotBehind (entry n a g)) (entriesFrom (suc n) rows)
     in-front a g h = all-map (λ e l. omega (arith, l)) (stand-behind (suc n) rows)
 
 pub wholeListing : (p : Picture) → WholeListing p
@@ -104,8 +110,7 @@ wholeListing p =
         let z : suc i ≡ 1 + i = omega arith in
         rw z (ap (map (λ (e : Entry). e .pair)) (stand-at 1 i (p .rows)) ∙ own-pairs (1 + i) (keptIn (getD (p .rows) i noRow)))
 
-    one : (e : Entry) → (1 ≤ e .position) × ((i : ℕ) → e .position ≡ 1 + i → keeps (e .address) (getD (p .rows) i noRow) ≡ true)
-        → keeps (e .address) (rowAt (p .rows) (e .position)) ≡ true
+    one : (e : Entry) → (1 ≤ e .position) × Owned 1 (p .rows) e → keeps (e .address) (rowAt (p .rows) (e .position)) ≡ true
     one e h = go (e .position) (h .0) (h .1)
       where
         go : (x : ℕ) → 1 ≤ x → ((i : ℕ) → x ≡ 1 + i → keeps (e .address) (getD (p .rows) i noRow) ≡ true) → keeps (e .address) (rowAt (p .rows) x) ≡ true

@@ -62,7 +62,7 @@ decodePlain kind pass x =
     (cond (eqb kind 3) (check (eqb pass 0 && eqb x 0) SHUTDOWN)
     (cond (eqb kind 5) (some (NONE pass x)) (cond (eqb kind 6) (check (eqb x 0) (DELAY pass)) none))))
 
--- an ANSWER: "count above 24" and "block 00, 01 or FF" are malformed, and so is a length that does not fit the count
+-- an ANSWER: a count above 24 (ticket 8) and "block 00, 01 or FF" are malformed, and so is a length that does not fit the count
 unfoldable pub decodeAnswer : List ℕ → Option Event
 decodeAnswer b =
     let count = getD b 10 0 in
@@ -70,7 +70,7 @@ decodeAnswer b =
     check (leb count maxPairs && eqb (length b) (11 + 2 * count) && not (any badBlock pairs)) (ANSWER (be4 b 3) (getD b 7 0) (be2 b 8) pairs)
 
 -- "Event: mark 4D 45, kind (1), pass (4), one byte x." None: number 2, "record malformed: length, mark, kind, unused field not 0, N,
--- count above 24, block 00, 01 or FF".
+-- count above [24, ticket 8], block 00, 01 or FF".
 unfoldable pub decode : List ℕ → Option Event
 decode b =
     cond (leb 8 (length b) && eqb (getD b 0 0) 0x4D && eqb (getD b 1 0) 0x45)

@@ -1,4 +1,5 @@
--- The sizes and limits of paper 01, each by a name. Those marked (house) there are the network owner's to choose.
+-- The sizes and limits of paper 01 and of the tickets that change them, each by a name. Those marked (house) there are the network
+-- owner's to choose.
 use Prim.Native.Nat.{ℕ, _-_, _*_}
 
 -- "a payload size L of 12 to 45 (house)"

@@ -1,4 +1,5 @@
-// The sizes of paper 01, each by its name. `rules/specs/House.antt` has the same ones for contracts and proofs.
+// The sizes of paper 01 and of the tickets that change them, each by its name. `rules/specs/House.antt` has the same ones for contracts
+// and proofs.
 ghost use mathlib.Core.Path.{_≡_};
 ghost use mathlib.Core.Bool.{not};
 ghost use lib.Dec.{ltb};

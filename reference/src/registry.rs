@@ -4,7 +4,7 @@ mod orders;
 mod record;
 
 use crate::refusal;
-use crate::sizes::{MAX_LISTED, MAX_NODES, MAX_PAIRS, MIN_ROOM, MIN_SIZE};
+use crate::sizes::{MAX_LISTED, MAX_NODES, MAX_NUMBER, MAX_PAIRS, MIN_NUMBER, MIN_ROOM, MIN_SIZE};
 use crate::telegrams::payload_size;
 use orders::Orders;
 use record::{Announcement, Event};
@@ -513,7 +513,7 @@ impl Ring {
     fn keep_good_pairs(&mut self, position: u8, announcement: &Announcement) -> BadPairs {
         let mut bad_pairs = [false; MAX_PAIRS];
         for (pair, bad) in announcement.pairs().zip(&mut bad_pairs) {
-            if (0x01..=0xFE).contains(&pair.number) && self.kept.insert(pair) {
+            if (MIN_NUMBER..=MAX_NUMBER).contains(&pair.number) && self.kept.insert(pair) {
                 self.rows[position as usize].push(pair);
             } else {
                 *bad = true;

@@ -8,6 +8,12 @@ pub const MAX_UNITS: usize = MAX_NODES - 1;
 pub const MAX_PAIRS: usize = 24;
 /// The most entries of a listing.
 pub const MAX_LISTED: usize = MAX_UNITS * MAX_PAIRS;
+/// The least number that a pair may have.
+pub const MIN_NUMBER: u8 = 0x01;
+/// The greatest number that a pair may have.
+pub const MAX_NUMBER: u8 = 0xFE;
+/// How many numbers a block has.
+pub const NUMBERS: usize = (MAX_NUMBER - MIN_NUMBER) as usize + 1;
 /// The least order room.
 pub const MIN_ROOM: usize = 8192;
 

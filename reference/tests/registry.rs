@@ -2,7 +2,7 @@
 
 use reference::generate::Random;
 use reference::registry::{Entry, Pair, Ring, State, Status};
-use reference::sizes::{MAX_LISTED, MAX_NODES, MAX_PAIRS, MIN_ROOM};
+use reference::sizes::{MAX_LISTED, MAX_NODES, MAX_NUMBER, MAX_PAIRS, MIN_NUMBER, MIN_ROOM, NUMBERS};
 use reference::wire::{event, ANSWER, DELAY, NCE, NONE, SHUTDOWN, START};
 
 fn answer(ring: &Ring, position: u8, address: u16, pairs: &[[u8; 2]]) -> Vec<u8> {
@@ -125,7 +125,7 @@ fn check_invariants(ring: &Ring) {
             _ => assert!(row.pairs().is_empty()),
         }
         for &pair in row.pairs() {
-            assert!(!pairs.contains(&pair) && (1..=254).contains(&pair.number));
+            assert!(!pairs.contains(&pair) && (MIN_NUMBER..=MAX_NUMBER).contains(&pair.number));
             pairs.push(pair);
         }
         assert!(row.bad() <= 3 && row.silences() <= 20);
@@ -273,10 +273,11 @@ fn the_greatest_listing() {
 
 #[test]
 fn a_block_with_one_number_free_and_with_none() {
-    let last = 254u8.div_ceil(MAX_PAIRS as u8) + 2;
+    let last = NUMBERS.div_ceil(MAX_PAIRS) as u8 + 2;
     for spare in 1..=255u8 {
         let mut ring = started(last + 1);
-        let numbers: Vec<[u8; 2]> = (1..=254).filter(|&number| number != spare).map(|number| [0x22, number]).collect();
+        let numbers: Vec<[u8; 2]> =
+            (MIN_NUMBER..=MAX_NUMBER).filter(|&number| number != spare).map(|number| [0x22, number]).collect();
         let mut position = 0;
         for chunk in numbers.chunks(MAX_PAIRS) {
             position += 1;

@@ -5,11 +5,9 @@ use std::collections::{HashMap, HashSet};
 use reference::generate::{self, rings};
 use reference::player::{play_bytes, Ringbox};
 use reference::registry::{Pair, Ring, Status};
-use reference::sizes::{BENCH_ROOM, MAX_LISTED};
+use reference::sizes::{BENCH_ROOM, MAX_LISTED, MAX_NUMBER, MIN_NUMBER, NUMBERS};
 use reference::wire::{self, ANSWER, ANSWER_HEAD, KIND, SET, X};
 
-/// The numbers of a block.
-const NUMBERS: usize = 254;
 /// Pairs and blocks of an ANSWER above this are many.
 const FEW: usize = 16;
 /// Rings below this are small.
@@ -100,7 +98,7 @@ impl Counter {
             let pair = pairs[index];
             matches!(pair.number, 0 | 255) || stands(&pair) || pairs[..index].contains(&pair)
         };
-        let none_is_free = |block: u8| !(1..=254).any(|number| is_free(&Pair { block, number }));
+        let none_is_free = |block: u8| !(MIN_NUMBER..=MAX_NUMBER).any(|number| is_free(&Pair { block, number }));
         let without: Vec<u8> = (0..pairs.len())
             .filter(|&index| bad(index))
             .map(|index| pairs[index].block)

@@ -4,10 +4,10 @@ use super::oddities::{odd_line, RINGBOX};
 use super::rings::{pair_near, Stage};
 use super::script::{Full, Script};
 use crate::registry::Ring;
-use crate::sizes::{BENCH_ROOM, MAX_LISTED, MIN_ROOM};
+use crate::sizes::{BENCH_ROOM, MAX_LISTED, MIN_ROOM, NUMBERS};
 
 /// Listings from this length on, that of a full block, are seldom shown.
-const LONG_LISTING: usize = 254;
+const LONG_LISTING: usize = NUMBERS;
 
 /// A script, the ring at its end and the order room that it lends.
 pub struct Writer {

@@ -5,10 +5,8 @@ use super::units::{beggar, Unit};
 use super::{Habits, Play, Played, Stage};
 use crate::generate::Random;
 use crate::registry::{Pair, State};
-use crate::sizes::{MAX_LISTED, MAX_NODES, MAX_PAIRS};
+use crate::sizes::{MAX_LISTED, MAX_NODES, MAX_NUMBER, MAX_PAIRS, MIN_NUMBER, NUMBERS};
 
-/// The numbers of a block.
-const NUMBERS: usize = 254;
 /// The most blocks that are full at once.
 const MAX_FULL_BLOCKS: usize = MAX_LISTED / NUMBERS;
 /// What most units have at most; head units have more.
@@ -33,7 +31,7 @@ impl<S: Stage> Play<'_, S> {
         let mut kept = Vec::new();
         for &block in &blocks {
             let spares: Vec<u8> = (0..random.pick(&[0, 0, 0, 1, 1, 2, 4])).map(|_| random.pick(SPARE)).collect();
-            let numbers = (1..=254).filter(|number| !spares.contains(number));
+            let numbers = (MIN_NUMBER..=MAX_NUMBER).filter(|number| !spares.contains(number));
             kept.extend(numbers.map(|number| Pair { block, number }));
         }
         if random.chance(60) {
@@ -226,10 +224,10 @@ pub fn full_pair(layout: usize, position: usize, index: usize) -> Pair {
     let place = (position - 1) * MAX_PAIRS + index;
     let (block, number) = match layout {
         0 => (0x22 + place / 256, place % 256),
-        1 => (0x22 + place / NUMBERS, 1 + place % NUMBERS),
+        1 => (0x22 + place / NUMBERS, MIN_NUMBER as usize + place % NUMBERS),
         2 => (0x10 + index, position),
-        3 => (0x20 + position, 1 + index * (NUMBERS - 1) / (MAX_PAIRS - 1)),
-        _ => (0x02 + place % 0xFD, 0xFE - position),
+        3 => (0x20 + position, MIN_NUMBER as usize + index * (NUMBERS - 1) / (MAX_PAIRS - 1)),
+        _ => (0x02 + place % 0xFD, MAX_NUMBER as usize - position),
     };
     Pair { block: block as u8, number: number as u8 }
 }

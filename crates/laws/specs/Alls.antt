@@ -3,7 +3,7 @@ use mathlib.Core.Path.{_≡_, refl, sym, _∙_, ap}
 use mathlib.Core.Bool.{Bool, true, false, cond, _||_}
 use mathlib.Core.List.{List, [], _∷_, _++_, map}
 use mathlib.Core.Logic.{_⊎_, inl, inr}
-use Prim.Native.Nat.{ℕ, zero, suc, _<_}
+use Prim.Native.Nat.{ℕ, zero, suc, _<_, _≤_}
 use native.Mathlib.Nat.{not-suc-le-zero, le-of-suc-le-suc}
 use native.Mathlib.Omega.{arith}
 use lib.ListN.{length, getD, set, drop, replicate}
@@ -201,6 +201,10 @@ module _ {A B : Type 0} where
   all-mapped f all-nil = all-nil
   all-mapped f (all-cons h hs) = all-cons h (all-mapped f hs)
 
+  pub all-unmapped : {Q : B → Type 0} (f : A → B) (xs : List A) → All Q (map f xs) → All (λ (x : A). Q (f x)) xs
+  all-unmapped f [] h = all-nil
+  all-unmapped f (x ∷ xs) h = all-cons (all-head h) (all-unmapped f xs (all-tail h))
+
   pub pairwise-mapped : {R : B → B → Type 0} (f : A → B) {xs : List A} → Pairwise (λ (x y : A). R (f x) (f y)) xs → Pairwise R (map f xs)
   pairwise-mapped f pairwise-nil = pairwise-nil
   pairwise-mapped f (pairwise-cons h hs) = pairwise-cons (all-mapped f h) (pairwise-mapped f hs)
@@ -248,3 +252,63 @@ module _ {A : Type 0} (f : A → Bool) where
   unfolding select
   select-none all-nil = refl
   select-none (all-cons {x} {xs} h hs) = cond-false (x ∷ select f xs) (select f xs) h ∙ select-none hs
+
+  -- what is selected passes the test, and keeps what it had
+  pub all-selected : (xs : List A) → All (λ (x : A). f x ≡ true) (select f xs)
+  unfolding select
+  all-selected [] = all-nil
+  all-selected (x ∷ xs) = go (f x) refl (all-selected xs)
+    where
+      go : (b : Bool) → f x ≡ b → All (λ (y : A). f y ≡ true) (select f xs) → All (λ (y : A). f y ≡ true) (cond b (x ∷ select f xs) (select f xs))
+      go true e h = all-cons e h
+      go false e h = h
+
+  pub all-select : {P : A → Type 0} {xs : List A} → All P xs → All P (select f xs)
+  unfolding select
+  all-select all-nil = all-nil
+  all-select {P} (all-cons {x} {xs} h hs) = go (f x) (all-select hs)
+    where
+      go : (b : Bool) → All P (select f xs) → All P (cond b (x ∷ select f xs) (select f xs))
+      go true k = all-cons h k
+      go false k = k
+
+  pub pairwise-select : {R : A → A → Type 0} {xs : List A} → Pairwise R xs → Pairwise R (select f xs)
+  unfolding select
+  pairwise-select pairwise-nil = pairwise-nil
+  pairwise-select {R} (pairwise-cons {x} {xs} h hs) = go (f x) (pairwise-select hs)
+    where
+      go : (b : Bool) → Pairwise R (select f xs) → Pairwise R (cond b (x ∷ select f xs) (select f xs))
+      go true k = pairwise-cons (all-select h) k
+      go false k = k
+
+  pub select-length : (xs : List A) → length (select f xs) ≤ length xs
+  unfolding select
+  select-length [] = omega arith
+  select-length (x ∷ xs) = go (f x) (select-length xs)
+    where
+      go : (b : Bool) → length (select f xs) ≤ length xs → length (cond b (x ∷ select f xs) (select f xs)) ≤ suc (length xs)
+      go true h = omega arith
+      go false h = omega arith
+
+module _ {A : Type 0} where
+  pub all-drop : {P : A → Type 0} (n : ℕ) {xs : List A} → All P xs → All P (drop n xs)
+  all-drop zero h = h
+  all-drop (suc n) all-nil = all-nil
+  all-drop (suc n) (all-cons h hs) = all-drop n hs
+
+  pub pairwise-drop : {R : A → A → Type 0} (n : ℕ) {xs : List A} → Pairwise R xs → Pairwise R (drop n xs)
+  pairwise-drop zero h = h
+  pairwise-drop (suc n) pairwise-nil = pairwise-nil
+  pairwise-drop (suc n) (pairwise-cons h hs) = pairwise-drop n hs
+
+-- a test of what is made of the elements
+module _ {A B : Type 0} (f : B → Bool) where
+  pub any-mapped : (g : A → B) (xs : List A) → any f (map g xs) ≡ any (λ (x : A). f (g x)) xs
+  unfolding any
+  any-mapped g [] = refl
+  any-mapped g (x ∷ xs) = ap (λ (b : Bool). f (g x) || b) (any-mapped g xs)
+
+  pub any-collect : (g : A → List B) (xs : List A) → any f (collect g xs) ≡ any (λ (x : A). any f (g x)) xs
+  unfolding any collect
+  any-collect g [] = refl
+  any-collect g (x ∷ xs) = any-append f (g x) (collect g xs) ∙ ap (λ (b : Bool). any f (g x) || b) (any-collect g xs)

@@ -19,14 +19,14 @@ use Rattle.rules.specs.Claims.{Writable, DecodesOnly}
 use Rattle.rules.proofs.Sound.{Formed}
 
 -- numbers of two and of four bytes, written again
-two-again : (a b : ℕ) → a < 256 → b < 256 → two (a * 256 + b) ≡ a ∷ b ∷ []
+pub two-again : (a b : ℕ) → a < 256 → b < 256 → two (a * 256 + b) ≡ a ∷ b ∷ []
 unfolding two
 two-again a b l m =
     let e : (a * 256 + b) / 256 % 256 ≡ a = omega arith in
     let f : (a * 256 + b) % 256 ≡ b = omega arith in
     λ i. e i ∷ f i ∷ []
 
-four-again : (a b c d : ℕ) → a < 256 → b < 256 → c < 256 → d < 256 → four ((a * 256 + b) * 65_536 + (c * 256 + d)) ≡ a ∷ b ∷ c ∷ d ∷ []
+pub four-again : (a b c d : ℕ) → a < 256 → b < 256 → c < 256 → d < 256 → four ((a * 256 + b) * 65_536 + (c * 256 + d)) ≡ a ∷ b ∷ c ∷ d ∷ []
 unfolding four two
 four-again a b c d k l m n =
     let w = (a * 256 + b) * 65_536 + (c * 256 + d) in
@@ -36,7 +36,7 @@ four-again a b c d k l m n =
     (λ i. two (e i) ++ f i ∷ g i ∷ []) ∙ ap (λ (l : List ℕ). l ++ c ∷ d ∷ []) (two-again a b k l)
 
 -- pairs read from an even number of bytes, written again
-pairs-again : (k : ℕ) (b : List ℕ) → length b ≡ 2 * k → (collect pairBytes (readPairs b) ≡ b) × (length (readPairs b) ≡ k)
+pub pairs-again : (k : ℕ) (b : List ℕ) → length b ≡ 2 * k → (collect pairBytes (readPairs b) ≡ b) × (length (readPairs b) ≡ k)
 unfolding readPairs pairBytes collect
 pairs-again zero [] h = (refl, refl)
 pairs-again zero (x ∷ []) h = absurd (omega arith)
@@ -48,7 +48,7 @@ pairs-again (suc k) (x ∷ y ∷ b) h =
     (ap (λ (l : List ℕ). x ∷ y ∷ l) (r .0), ap suc (r .1))
 
 -- a list from place i on is its next n bytes and what stands behind them
-spelled : (b : List ℕ) (i n : ℕ) → i + n ≤ length b → drop i b ≡ map (λ (k : ℕ). getD b k 0) (upFrom i n) ++ drop (i + n) b
+pub spelled : (b : List ℕ) (i n : ℕ) → i + n ≤ length b → drop i b ≡ map (λ (k : ℕ). getD b k 0) (upFrom i n) ++ drop (i + n) b
 unfolding upFrom
 spelled b i zero h = let e : i + 0 ≡ i = omega arith in rw e refl
 spelled b i (suc n) h =
@@ -83,7 +83,7 @@ blocks-good ps h = all-map (λ a e. (ltb-false (a .block) 0x02 (or-left _ _ e), 
     below a e = omega (arith, leb-false 0xFF (a .block) e)
 
 -- the event of these bytes is well formed; it can be written and has them, if they are bytes
-abbrev Bytes : List ℕ → Type 0
+abbrev pub Bytes : List ℕ → Type 0
 Bytes b = All (λ (x : ℕ). x < 256) b
 
 abbrev Reads : List ℕ → Event → Type 0
@@ -119,14 +119,14 @@ plain-reads kind pass x =
     no-pass t e = eqb-true pass 0 (and-left (eqb pass 0) t e)
 
 module _ (b : List ℕ) where
-  byte : Bytes b → (i : ℕ) → getD b i 0 < 256
+  pub byte : Bytes b → (i : ℕ) → getD b i 0 < 256
   byte h i = all-everywhere {P = λ (x : ℕ). x < 256} i 0 (omega arith) h
 
-  pass-small : Bytes b → be4 b 3 ≤ maxPass
+  pub pass-small : Bytes b → be4 b 3 ≤ maxPass
   unfolding be4 be2
   pass-small h = omega (arith, byte h 3, byte h 4, byte h 5, byte h 6)
 
-  address-small : Bytes b → be2 b 8 < 65_536
+  pub address-small : Bytes b → be2 b 8 < 65_536
   unfolding be2
   address-small h = omega (arith, byte h 8, byte h 9)
 

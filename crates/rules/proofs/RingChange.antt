@@ -26,7 +26,7 @@ use Rattle.rules.proofs.Runs.{Running, running-fresh, running-taken}
 use Rattle.rules.proofs.Sizes.{open-no-ok, open-no-wait, told-none}
 
 -- pairs that are packed come out again, one behind the other
-packed-all : (most cap : ℕ) (ps : List Pair) → 1 ≤ cap → length ps ≤ most → collect (λ (q : List Pair). q) (packed most cap ps) ≡ ps
+pub packed-all : (most cap : ℕ) (ps : List Pair) → 1 ≤ cap → length ps ≤ most → collect (λ (q : List Pair). q) (packed most cap ps) ≡ ps
 unfolding packed collect
 packed-all zero cap [] h l = refl
 packed-all zero cap (a ∷ ps) h l = absurd (omega arith)

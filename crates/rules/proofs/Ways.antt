@@ -14,7 +14,7 @@ use Rattle.laws.specs.Lists.{any}
 use Rattle.laws.specs.Bools.{clash, and-false, or-left, or-right, not-false, on-cond}
 use Rattle.laws.specs.Alls.{All, all-of, all-map, any-none}
 use Rattle.rules.specs.House.{minRoom, maxPass}
-use Rattle.rules.specs.Picture.{NotOk, isNotOk, isOk, Pair, Row, Picture, isOpen, isIgnored, keeps, bars, inRange, Seat, seatAt, others, put, noRow}
+use Rattle.rules.specs.Picture.{NotOk, isNotOk, isOk, Pair, Row, Picture, isOpen, isIgnored, keeps, keepsOther, bars, inRange, Seat, seatAt, others, put, noRow}
 use Rattle.rules.specs.Event.{Event, START, NCE, SHUTDOWN, ANSWER, NONE, DELAY, decode}
 use Rattle.rules.specs.Order.{NOTOK}
 use Rattle.rules.specs.Step.{Change, Response, refuse, change, refuseIf, scan, begin, rescan, networkChange, shutDown, changeRows, silenced, delayEnds, Verdict, barred, outside, duplicate, changed, fine}
@@ -61,10 +61,11 @@ abbrev pub Cleared : (Row → Bool) → ℕ → List Row → Type 0
 Cleared counts a rest = (inRange a ≡ false) ⊎ All (λ (r : Row). keeps a r ≡ true → counts r ≡ true) rest
 
 -- that nothing is wrong with it
-pub record Fine (a : ℕ) (rest : List Row) : Type 0 where
+pub record Fine (a : ℕ) (r : Row) (rest : List Row) : Type 0 where
   pub unbarred : any (bars a) rest ≡ false
   pub ranged : inRange a ≡ true
   pub unkept : any (keeps a) rest ≡ false
+  pub same : keepsOther a r ≡ false
 
 -- no counted row stands at the limit
 pub record Below (counts : Row → Bool) (s : Seat) : Type 0 where
@@ -89,7 +90,7 @@ pub record Ways (p : Picture) (P : Event → Change → Type 0) : Type 0 where
       → (counts : Row → Bool) → Below counts (seatAt (p .rows) x) → p .pass < maxPass
       → P (ANSWER c x a ps) (scan (NOTOK ∷ []) (map emptied (onCounted counts counted (seatAt (p .rows) x))) p)
   pub keeps : (c x a : ℕ) (ps : List Pair) → Seated p c x → (p .state ≡ NotOk → isOpen (seatAt (p .rows) x .row) ≡ true)
-      → Fine a (others (seatAt (p .rows) x)) → P (ANSWER c x a ps) (keepAnswer x a ps (seatAt (p .rows) x) p)
+      → Fine a (seatAt (p .rows) x .row) (others (seatAt (p .rows) x)) → P (ANSWER c x a ps) (keepAnswer x a ps (seatAt (p .rows) x) p)
 
 -- a position that the ring has is a seat between the rows in front of it and those behind it
 seated : (p : Picture) (c x : ℕ) → not (eqb c (p .pass)) ≡ false → noPosition p x ≡ false → isIgnored (seatAt (p .rows) x .row) ≡ false → Seated p c x
@@ -116,17 +117,17 @@ unfolding nobody
 nobody-keeps a r h = clash h refl
 
 on-verdict : (Q : Verdict → Type 0) (rest : List Row) (r : Row) (a : ℕ) → (Barred a rest → Q barred) → (inRange a ≡ false → Q outside) → Q duplicate
-    → (any (keeps a) rest ≡ false → Q changed) → (Fine a rest → Q fine) → Q (verdict rest r a)
+    → (any (keeps a) rest ≡ false → Q changed) → (Fine a r rest → Q fine) → Q (verdict rest r a)
 unfolding verdict firstThatApplies
-on-verdict Q rest r a b o d c f = go _ refl _ refl _ refl _
+on-verdict Q rest r a b o d c f = go _ refl _ refl _ refl _ refl
   where
     go : (b₁ : Bool) → any (bars a) rest ≡ b₁ → (b₂ : Bool) → inRange a ≡ b₂ → (b₃ : Bool) → any (keeps a) rest ≡ b₃ → (b₄ : Bool)
-        → Q (firstThatApplies b₁ b₂ b₃ b₄)
-    go true e₁ b₂ e₂ b₃ e₃ b₄ = b e₁
-    go false e₁ false e₂ b₃ e₃ b₄ = o e₂
-    go false e₁ true e₂ true e₃ b₄ = d
-    go false e₁ true e₂ false e₃ true = c e₃
-    go false e₁ true e₂ false e₃ false = f (record { unbarred = e₁; ranged = e₂; unkept = e₃ })
+        → keepsOther a r ≡ b₄ → Q (firstThatApplies b₁ b₂ b₃ b₄)
+    go true e₁ b₂ e₂ b₃ e₃ b₄ e₄ = b e₁
+    go false e₁ false e₂ b₃ e₃ b₄ e₄ = o e₂
+    go false e₁ true e₂ true e₃ b₄ e₄ = d
+    go false e₁ true e₂ false e₃ true e₄ = c e₃
+    go false e₁ true e₂ false e₃ false e₄ = f (record { unbarred = e₁; ranged = e₂; unkept = e₃; same = e₄ })
 
 module _ (p : Picture) (P : Event → Change → Type 0) (w : Ways p P) where
   module _ (c x a : ℕ) (ps : List Pair) (s : Seated p c x) (o : p .state ≡ NotOk → isOpen (seatAt (p .rows) x .row) ≡ true) where

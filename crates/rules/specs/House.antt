@@ -1,4 +1,4 @@
--- The sizes and limits of paper 01 and of the tickets that change them, each by a name. Those marked (house) there are the network
+-- The sizes and limits of paper 01 and of the tickets, each by a name. Those marked (house) there are the network
 -- owner's to choose.
 use Prim.Native.Nat.{ℕ, _-_, _*_}
 
@@ -62,3 +62,11 @@ maxPass = 4_294_967_295
 -- "payload above 65,535", "join buffer below 65,535", "total above 65,535"
 abbrev pub maxPayload : ℕ
 maxPayload = 65_535
+
+-- "keeps up to 64 look-up answers" (ticket 7)
+abbrev pub maxAnswers : ℕ
+maxAnswers = 64
+
+-- "lent room below 64 bytes is refused 1" (ticket 7)
+abbrev pub minAnswerRoom : ℕ
+minAnswerRoom = 64

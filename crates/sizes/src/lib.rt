@@ -1,4 +1,4 @@
-// The sizes of paper 01 and of the tickets that change them, each by its name. `rules/specs/House.antt` has the same ones for contracts
+// The sizes of paper 01 and of the tickets, each by its name. `rules/specs/House.antt` has the same ones for contracts
 // and proofs.
 ghost use mathlib.Core.Path.{_≡_};
 ghost use mathlib.Core.Bool.{not};
@@ -23,6 +23,11 @@ pub const MAX_LISTED: usize = MAX_UNITS * MAX_PAIRS;
 
 // The least room that orders are written to.
 pub const MIN_ROOM: usize = 8192;
+
+// The look-up answers that a unit keeps at most, and the least room that its ANSWER is written to.
+pub const MAX_ANSWERS: usize = 64;
+
+pub const MIN_ANSWER_ROOM: usize = 64;
 
 // The longest message.
 pub const MAX_PAYLOAD: usize = 65535;

@@ -1,5 +1,6 @@
 //! The generator of bench scripts: the same seed gives the same bytes. And fixed lines that are too long to write by hand.
 
+pub mod benches;
 mod limits;
 mod oddities;
 mod random;
@@ -8,6 +9,7 @@ pub mod rings;
 mod script;
 pub mod streams;
 mod telegrams;
+mod unit;
 
 use crate::sizes::{MAX_SIZE, MIN_SIZE};
 pub use random::Random;
@@ -59,6 +61,13 @@ pub fn telegrams(seed: u64, lines: usize) -> Vec<u8> {
     writer.into_text()
 }
 
+/// A script of about `lines` lines for a unit.
+pub fn unit(seed: u64, lines: usize) -> Vec<u8> {
+    let mut writer = unit::Writer::new(Script::new(!seed, lines));
+    benches::Play::new(&mut writer, seed).run();
+    writer.into_text()
+}
+
 /// Lines on both sides of the limit, for the registry.
 pub fn ringbox_limits() -> Vec<u8> {
     limits::ringbox()
@@ -67,4 +76,9 @@ pub fn ringbox_limits() -> Vec<u8> {
 /// Lines on both sides of the limit, for the telegrams.
 pub fn telegrams_limits() -> Vec<u8> {
     limits::telegrams()
+}
+
+/// Lines on both sides of the limit, for a unit.
+pub fn unit_limits() -> Vec<u8> {
+    limits::unit()
 }

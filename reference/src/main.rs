@@ -3,12 +3,12 @@
 use std::io::{self, BufWriter, ErrorKind, Write};
 use std::process::ExitCode;
 
-use reference::player::{play, Ringbox, Telegrams};
+use reference::player::{play, Ringbox, Telegrams, UnitBench};
 use reference::{generate, scripts};
 
-const USAGE: &str = "usage: reference ringbox | telegrams
-       reference generate ringbox | telegrams SEED LINES
-       reference vectors ringbox | telegrams
+const USAGE: &str = "usage: reference ringbox | telegrams | unit
+       reference generate ringbox | telegrams | unit SEED LINES
+       reference vectors ringbox | telegrams | unit
 ";
 
 fn main() -> ExitCode {
@@ -35,6 +35,7 @@ fn run(words: &[&str]) -> io::Result<bool> {
     match words {
         ["ringbox"] => play(&mut Ringbox::new(), &mut input, &mut output)?,
         ["telegrams"] => play(&mut Telegrams::new(), &mut input, &mut output)?,
+        ["unit"] => play(&mut UnitBench::new(), &mut input, &mut output)?,
         ["vectors", "ringbox"] => {
             output.write_all(scripts::RINGBOX_EDGES.as_bytes())?;
             output.write_all(&generate::ringbox_limits())?;
@@ -43,13 +44,18 @@ fn run(words: &[&str]) -> io::Result<bool> {
             output.write_all(scripts::TELEGRAMS_EDGES.as_bytes())?;
             output.write_all(&generate::telegrams_limits())?;
         }
-        ["generate", kind @ ("ringbox" | "telegrams"), seed, lines] => {
+        ["vectors", "unit"] => {
+            output.write_all(scripts::UNIT_EDGES.as_bytes())?;
+            output.write_all(&generate::unit_limits())?;
+        }
+        ["generate", kind @ ("ringbox" | "telegrams" | "unit"), seed, lines] => {
             let (Ok(seed), Ok(lines)) = (seed.parse(), lines.parse()) else {
                 return Ok(false);
             };
             let script = match *kind {
                 "ringbox" => generate::ringbox(seed, lines),
-                _ => generate::telegrams(seed, lines),
+                "telegrams" => generate::telegrams(seed, lines),
+                _ => generate::unit(seed, lines),
             };
             output.write_all(&script)?;
         }

@@ -1,7 +1,9 @@
 //! The player of bench scripts: reads lines, answers each command.
 
+mod lines;
 mod ringbox;
 mod telegrams;
+mod unit;
 mod words;
 
 use std::borrow::Cow;
@@ -9,8 +11,10 @@ use std::io::{self, BufRead, Write};
 
 use crate::refusal;
 use crate::sizes::{MAX_PAYLOAD, MAX_SIZE, MIN_ROOM, MIN_SIZE};
+pub(crate) use lines::{put_order, put_order_line};
 pub use ringbox::Ringbox;
 pub use telegrams::{fill, Telegrams};
+pub use unit::{first_unit, UnitBench};
 use words::Words;
 
 /// The most bytes of a line.
@@ -24,6 +28,9 @@ type Reason = &'static str;
 /// A bench that answers commands.
 pub trait Bench {
     type Command;
+
+    /// The first characters of earlier answers.
+    const EARLIER: [u8; 3] = *b"=<!";
 
     /// Reads a command.
     fn read(line: &[u8]) -> Result<Self::Command, Reason>;
@@ -63,7 +70,7 @@ fn play_line<B: Bench>(bench: &mut B, line: &[u8], out: &mut Vec<u8>) {
             out.extend_from_slice(line);
             out.push(b'\n');
         }
-        Some(b'=' | b'<' | b'!') => {}
+        Some(mark) if B::EARLIER.contains(mark) => {}
         Some(_) => play_command(bench, line, out),
     }
 }
@@ -174,10 +181,14 @@ use put;
 
 /// Writes a refusal.
 fn put_refusal(out: &mut Vec<u8>, number: u8) {
-    put!(out, "! {number}  {}\n", meaning(number));
+    put_refusal_in_words(out, number, &meaning(number));
 }
 
-/// A number in words.
+fn put_refusal_in_words(out: &mut Vec<u8>, number: u8, words: &str) {
+    put!(out, "! {number}  {words}\n");
+}
+
+/// A number in words; a unit has its own words.
 fn meaning(number: u8) -> Cow<'static, str> {
     let words = match number {
         refusal::ORDER_ROOM_TOO_SHORT => return format!("order room below {MIN_ROOM} bytes").into(),

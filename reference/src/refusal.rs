@@ -24,5 +24,10 @@ pub const OUT_OF_SEQUENCE: u8 = 16;
 pub const NOT_LISTED: u8 = 17;
 pub const NOT_OK: u8 = 18;
 
+// Units: an order, first the room; a new unit.
+pub const ANSWER_ROOM_TOO_SHORT: u8 = 1;
+pub const ORDER_MALFORMED: u8 = 2;
+pub const TOO_MANY_PAIRS: u8 = 2;
+
 /// How many numbers there are, with 0, which stands for no refusal.
 pub const COUNT: u8 = NOT_OK + 1;

@@ -16,6 +16,10 @@ pub const MAX_NUMBER: u8 = 0xFE;
 pub const NUMBERS: usize = (MAX_NUMBER - MIN_NUMBER) as usize + 1;
 /// The least order room.
 pub const MIN_ROOM: usize = 8192;
+/// The most look-up answers that a unit keeps.
+pub const MAX_KNOWN: usize = 64;
+/// The least room for a unit's ANSWER.
+pub const MIN_ANSWER_ROOM: usize = 64;
 
 /// The least payload size L of a telegram, and the greatest.
 pub const MIN_SIZE: usize = 12;
@@ -27,7 +31,9 @@ pub const MAX_TELEGRAM: usize = TELEGRAM_HEAD + MAX_SIZE;
 /// The longest message, and the least join buffer.
 pub const MAX_PAYLOAD: usize = 65_535;
 
-/// The most order room that a bench lends.
+/// The most room that a bench lends to orders and to a unit's ANSWER.
 pub const BENCH_ROOM: usize = 8192;
+/// The most pairs of a command.
+pub const BENCH_PAIRS: usize = 255;
 /// The longest payload of a bench, and the most room that it lends to a telegram.
 pub const BENCH_PAYLOAD: usize = 70_000;

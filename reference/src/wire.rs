@@ -57,6 +57,23 @@ pub fn answer(pass: u32, position: u8, address: u16, pairs: &[Pair]) -> Vec<u8> 
     record
 }
 
+/// An order.
+pub fn order(kind: u8, pass: u32, data: &[u8]) -> Vec<u8> {
+    [&ORDER_MARK[..], &[kind], &pass.to_be_bytes(), data].concat()
+}
+
+/// An order that names pairs, at most 255.
+pub fn order_of_pairs(kind: u8, pass: u32, pairs: &[Pair]) -> Vec<u8> {
+    let mut order = order(kind, pass, &[pairs.len() as u8]);
+    order.extend(pairs.iter().flat_map(|pair| [pair.block, pair.number]));
+    order
+}
+
+/// Pairs that stand one behind the other.
+pub fn pairs(bytes: &[u8]) -> impl Iterator<Item = Pair> + '_ {
+    bytes.chunks_exact(2).map(|pair| Pair { block: pair[0], number: pair[1] })
+}
+
 /// Orders that stand one behind the other, one by one.
 pub fn orders(mut bytes: &[u8]) -> impl Iterator<Item = &[u8]> {
     iter::from_fn(move || {

@@ -3,8 +3,22 @@
 use super::Script;
 use crate::player::MAX_LINE;
 
-/// Lines that end in each of the reasons, and other forms that do not.
-pub const RINGBOX: &[&str] = &[
+/// The odd lines of a program.
+pub struct Oddities {
+    /// Lines that end in each of the reasons, and other forms that do not.
+    reasons: &'static [&'static str],
+    /// Comments, empty lines and earlier answers.
+    quiet: &'static [&'static str],
+    /// How long lines begin.
+    starts: &'static [&'static [u8]],
+}
+
+pub const RINGBOX: &Oddities = &Oddities { reasons: RINGBOX_REASONS, quiet: QUIET, starts: STARTS };
+pub const TELEGRAMS: &Oddities = &Oddities { reasons: TELEGRAMS_REASONS, quiet: QUIET, starts: STARTS };
+/// None of these lines changes the unit.
+pub const UNIT: &Oddities = &Oddities { reasons: UNIT_REASONS, quiet: UNIT_QUIET, starts: UNIT_STARTS };
+
+const RINGBOX_REASONS: &[&str] = &[
     "nothing",
     "Fresh 12",
     "STATE",
@@ -80,8 +94,7 @@ pub const RINGBOX: &[&str] = &[
     "fresh 1/",
 ];
 
-/// The same for the telegrams.
-pub const TELEGRAMS: &[&str] = &[
+const TELEGRAMS_REASONS: &[&str] = &[
     "nothing",
     ">",
     "Fill 1 1",
@@ -146,6 +159,124 @@ pub const TELEGRAMS: &[&str] = &[
     "payload g0",
 ];
 
+const UNIT_REASONS: &[&str] = &[
+    "nothing",
+    "Unit 1 0101",
+    "unit",
+    "unit 1",
+    "unit x",
+    "unit 256 0101",
+    "unit 256 x",
+    "unit -1 0101",
+    "unit 1x 0101",
+    "unit 4294967296 0101",
+    "unit 1 x",
+    "unit 1 010",
+    "unit 1 01010",
+    "unit 1 01x",
+    "unit 1 010g1",
+    "unit 1 22.01",
+    "unit 1 0101 x",
+    "unit 1 0101 22",
+    "unit 1 0101 2201",
+    "unit 1 0101 22.1",
+    "unit 1 0101 2.01",
+    "unit 1 0101 22.001",
+    "unit 1 0101 022.01",
+    "unit 1 0101 22.0G",
+    "unit 1 0101 @2.01",
+    "unit 1 0101 22,01",
+    "unit 1 0101 22..1",
+    "unit 1 0101 .2201",
+    "unit 1 0101 22.01 31.0",
+    "unit 1 0101 22.01 #",
+    "unit 1 0101 22.01\r31.01",
+    "unit\x001 0101",
+    "units 1 0101",
+    "unit1 0101",
+    "room",
+    "room 8193",
+    "room 65536",
+    "room +1",
+    "room 1 2",
+    "room 0x10",
+    "roomy 64",
+    "found",
+    "found 22",
+    "found 22 01",
+    "found 2",
+    "found 22 1",
+    "found 22 01 1",
+    "found 22 01 01010",
+    "found 2x 01 0101",
+    "found 22 0y 0101",
+    "found 22 01 010z",
+    "found 222 1x 0101",
+    "found 22 01 0101 x",
+    "found 22.01 0101",
+    "found 2@ 01 0101",
+    "found 2/ 01 0101",
+    "found 22 01 010`",
+    "found 22 01 01:1",
+    "known 1",
+    "known =",
+    "known\r 1",
+    "list 0",
+    "self 1",
+    "Known",
+    "LIST",
+    "selF",
+    "knowns",
+    "lis",
+    "self#",
+    "<",
+    "< 4",
+    "< 4D4",
+    "< 4D4F",
+    "< 4D4F 0",
+    "< 4D4F 03 0000000 0",
+    "< 4D4F 03 00000000 x",
+    "< 4D4F 03 00000000\tOK",
+    "< 4D4F 03 00000000 0",
+    "< 4D4F 03 00000000 \r  x",
+    "< 4D4F  03 00000000",
+    "< 4D4F\t\t03 00000000",
+    "<  4D4F \t03 00000000",
+    "< 4D4F\t 03 00000000",
+    "< 4D  4X",
+    "<  4D4F 03 000000  00",
+    "< 4D4 5X",
+    "< 4D 4X5",
+    "< XX 4",
+    "< x  4D4F 03 00000000",
+    "< 4  4D4F 03 00000000",
+    "<<",
+    "< < 4D4F",
+    "<>",
+    "<x",
+    "< 4D\r4F",
+    "< 4D4F:03",
+    "< @A",
+    "< `a",
+    "< gA",
+    "< /0",
+    "< :0",
+    " <",
+    "\t< 4D4F 09 00000000",
+    " > 4D45 01 00000000 02",
+    " >",
+    " = no answer",
+    "\t! 2",
+    "  # no comment",
+    "4D4F 03 00000000",
+    "state",
+    "listing",
+    "lookup 22 01",
+    "fresh 12",
+    "\u{0}",
+    "\u{7F}\u{0}x",
+];
+
 const QUIET: &[&str] = &[
     "# a comment",
     "#",
@@ -171,19 +302,63 @@ const QUIET: &[&str] = &[
     "!x",
 ];
 
+const UNIT_QUIET: &[&str] = &[
+    "# a comment",
+    "#",
+    "#\tx\ty",
+    "# \u{0} \u{1}",
+    "##",
+    "",
+    "",
+    " ",
+    "\t\r",
+    "\r",
+    "= read",
+    "=",
+    "> 4D45 04 00000001 01 0101 01 2201",
+    ">",
+    "!",
+    "! 2",
+    "! 2  order malformed",
+    "# x \r y \r",
+    "# 4D4F",
+    "=x",
+    ">x",
+    ">>",
+    "!x",
+];
+
+const STARTS: &[&[u8]] = &[b"# ", b"= ", b"x", b"> 4D45 ", b"state ", b"payload ", b"join 12 65535 ", b" ", b"< "];
+
+const UNIT_STARTS: &[&[u8]] = &[
+    b"# ",
+    b"= ",
+    b"x",
+    b"> 4D45 ",
+    b"< 4D4F ",
+    b"< 4D4F 05 00000001 FF ",
+    b"< 4D4F 09 00000001  ",
+    b"<",
+    b" < 4D45 ",
+    b"self ",
+    b"unit 1 0101 x ",
+    b"found 22 01 x ",
+    b" ",
+];
+
 /// Writes one odd line.
-pub fn odd_line(script: &mut Script, reasons: &[&str]) {
+pub fn odd_line(script: &mut Script, oddities: &Oddities) {
     match script.random.below(100) {
         0..=44 => {
-            let line = script.random.pick(QUIET);
+            let line = script.random.pick(oddities.quiet);
             script.line(line.as_bytes());
         }
         45..=93 => {
-            let line = script.random.pick(reasons);
+            let line = script.random.pick(oddities.reasons);
             script.line(line.as_bytes());
         }
         94..=96 => garbage(script),
-        _ => long_line(script),
+        _ => long_line(script, oddities.starts),
     }
 }
 
@@ -194,20 +369,10 @@ fn garbage(script: &mut Script) {
 }
 
 /// Writes a line near the limit of 16,384 bytes.
-fn long_line(script: &mut Script) {
+fn long_line(script: &mut Script, starts: &[&[u8]]) {
     let beyond = script.random.pick(&[0, 1, 2, 3, 4, 5, 9, 3_619]);
     let length = MAX_LINE - 3 + beyond;
-    let start: &[u8] = script.random.pick(&[
-        &b"# "[..],
-        b"= ",
-        b"x",
-        b"> 4D45 ",
-        b"state ",
-        b"payload ",
-        b"join 12 65535 ",
-        b" ",
-        b"< ",
-    ]);
+    let start = script.random.pick(starts);
     let filler = script.random.pick(b"0 \rx4\t");
     let mut line = start.to_vec();
     line.resize(length, filler);

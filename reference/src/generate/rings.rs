@@ -5,12 +5,13 @@ mod noise;
 mod replugs;
 mod scenes;
 mod steps;
-mod units;
+pub(super) mod units;
 
 use super::{Random, BAD_SIZES};
+use crate::order::{Content, Order};
 use crate::registry::{Pair, Ring, Status};
 use crate::sizes::{BENCH_ROOM, MAX_NODES, MAX_SIZE, MIN_SIZE};
-use crate::wire::{self, event, SET};
+use crate::wire::{self, event};
 use units::{Taste, Unit};
 
 /// What a ring is played on: it takes the records, and shows the ring that they make.
@@ -89,11 +90,17 @@ impl<'a, S: Stage> Play<'a, S> {
     /// Plays scene after scene, from the seed's first on, until the stage says stop.
     pub fn run(&mut self) -> S::Stop {
         loop {
-            if let Err(stop) = (Self::SCENES[self.scene])(self) {
+            if let Err(stop) = self.play_scene() {
                 return stop;
             }
-            self.scene = (self.scene + 1) % Self::SCENES.len();
         }
+    }
+
+    /// Plays the next scene.
+    pub fn play_scene(&mut self) -> Played<S> {
+        let scene = Self::SCENES[self.scene];
+        self.scene = (self.scene + 1) % Self::SCENES.len();
+        scene(self)
     }
 
     /// So many passes of a ring without units.
@@ -128,8 +135,8 @@ impl<'a, S: Stage> Play<'a, S> {
     fn offer_with(&mut self, record: &[u8], room: Option<usize>) -> Played<S> {
         let orders = self.stage.offer(record, room)?;
         for order in wire::orders(&orders) {
-            if let [_, _, SET, _, _, _, _, position, _, _, block, number, new] = *order {
-                self.units[position as usize].renumber(Pair { block, number }, new, &mut self.random);
+            if let Some(Order { content: Content::Set { position, old, new, .. }, .. }) = Order::read(order) {
+                self.units[position as usize].renumber(old, new, &mut self.random);
             }
         }
         if self.past.len() == 64 {

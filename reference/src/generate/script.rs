@@ -1,6 +1,8 @@
 //! The text of a generated script, with its varied forms.
 
 use super::Random;
+use crate::order::Order;
+use crate::player::{put_order, put_order_line};
 
 /// The script has all its lines.
 pub struct Full;
@@ -91,5 +93,48 @@ impl Script {
             hex = hex.trim_start().to_string();
         }
         self.command(&format!("{words}{hex}"));
+    }
+
+    /// Writes an order for a unit: in its normal form, as ringbox writes it, or otherwise; its bytes stay the same.
+    pub fn order(&mut self, bytes: &[u8]) {
+        let mut line = Vec::new();
+        match self.random.below(10) {
+            0..=4 => put_order(&mut line, bytes),
+            5 | 6 if Order::read(bytes).is_some() => {
+                put_order_line(&mut line, bytes);
+                line.pop();
+            }
+            _ => line = self.odd_order(bytes).into_bytes(),
+        }
+        self.line(&line);
+    }
+
+    /// An order with other groups, blanks, case or words. Words stand behind two blanks and behind bytes.
+    fn odd_order(&mut self, bytes: &[u8]) -> String {
+        let mut hex = self.hex(bytes).trim_start().to_string();
+        if self.random.chance(20) {
+            hex = hex.to_lowercase();
+        }
+        if self.random.chance(20) {
+            hex = hex.replace(' ', "\t");
+        }
+        if !bytes.is_empty() && self.random.chance(30) {
+            hex.push_str(self.random.pick(&["  ", "\t\t", " \t", "\t ", "     "]));
+            hex.push_str(self.random.pick(&[
+                "OK",
+                "x  y",
+                "0",
+                "4D4F 04 00000000",
+                "< 4D4F",
+                "#",
+                "\r x",
+                "\u{0}",
+                "ASK position 1",
+            ]));
+        }
+        let before = self.random.pick(&["", "", "", "", " ", "\t", " \t  "]);
+        let behind = self.random.pick(&["", " ", " ", " ", "\t", "  ", " \t\t "]);
+        let end = self.random.pick(&["", "", "", "", " ", "\r", "\t \r"]);
+        format!("{before}<{behind}{hex}{end}")
     }
 }

@@ -1,6 +1,7 @@
 //! The bench of the registry.
 
-use super::{put, put_hex, put_refusal, Bench, Reason, Words};
+use super::lines::{put_order_line, put_pair, put_record};
+use super::{put, put_refusal, Bench, Reason, Words};
 use crate::registry::{Ring, State, Status};
 use crate::sizes::BENCH_ROOM;
 use crate::wire;
@@ -40,7 +41,7 @@ impl Ringbox {
         match self.ring.record(bytes, &mut self.buffer[..self.room]) {
             Ok(length) => {
                 out.extend_from_slice(b"= taken\n");
-                wire::orders(&self.buffer[..length]).for_each(|order| put_order(out, order));
+                wire::orders(&self.buffer[..length]).for_each(|order| put_order_line(out, order));
             }
             Err(number) => put_refusal(out, number),
         }
@@ -88,9 +89,7 @@ impl Ringbox {
                 None => put!(out, "----"),
             }
             put!(out, " bad {} silent {}", row.bad(), row.silences());
-            for pair in row.pairs() {
-                put!(out, " {:02X}.{:02X}", pair.block, pair.number);
-            }
+            row.pairs().iter().for_each(|&pair| put_pair(out, pair));
             out.push(b'\n');
         }
     }
@@ -143,72 +142,5 @@ impl Bench for Ringbox {
             Command::LookUp(block, number) => self.look_up(block, number, out),
             Command::Rows => self.rows(out),
         }
-    }
-}
-
-/// Writes fields of the given lengths with a blank before each, as far as the bytes go; gives what is left.
-fn put_fields<'a>(out: &mut Vec<u8>, mut bytes: &'a [u8], lengths: &[usize]) -> &'a [u8] {
-    for &length in lengths {
-        if bytes.is_empty() {
-            break;
-        }
-        let (field, rest) = bytes.split_at(length.min(bytes.len()));
-        out.push(b' ');
-        put_hex(out, field);
-        bytes = rest;
-    }
-    bytes
-}
-
-fn put_record(out: &mut Vec<u8>, bytes: &[u8]) {
-    out.push(b'>');
-    let mut rest = put_fields(out, bytes, &[2, 1, 4, 1]);
-    if bytes.get(wire::KIND) != Some(&wire::ANSWER) {
-        put_fields(out, rest, &[rest.len()]);
-        return;
-    }
-    rest = put_fields(out, rest, &[2, 1]);
-    while !rest.is_empty() {
-        rest = put_fields(out, rest, &[2]);
-    }
-}
-
-/// Writes the line of an order.
-fn put_order(out: &mut Vec<u8>, order: &[u8]) {
-    let kind = order[wire::KIND];
-    let fields: &[usize] = if kind == wire::SET { &[1, 2, 1, 1, 1] } else { &[1] };
-    out.push(b'<');
-    let data = put_fields(out, order, &[2, 1, 4]);
-    let mut pairs = put_fields(out, data, fields);
-    while !pairs.is_empty() {
-        pairs = put_fields(out, pairs, &[2]);
-    }
-    out.extend_from_slice(b"  ");
-    put_meaning(out, kind, data);
-    out.push(b'\n');
-}
-
-/// Writes an order in words.
-fn put_meaning(out: &mut Vec<u8>, kind: u8, data: &[u8]) {
-    match (kind, data) {
-        (wire::ASK, [position]) => put!(out, "ASK position {position}"),
-        (wire::SET, [position, high, low, block, old, new]) => put!(
-            out,
-            "SET position {position} ({high:02X}{low:02X}): {block:02X}.{old:02X} becomes {block:02X}.{new:02X}"
-        ),
-        (wire::OK, []) => put!(out, "OK: the registry stands"),
-        (wire::NOTOK, []) => put!(out, "NOTOK: the registry is made anew"),
-        (wire::NEW, [_, pairs @ ..]) => put_pairs(out, "NEW:", pairs),
-        (wire::INVALID, [_, pairs @ ..]) => put_pairs(out, "INVALID:", pairs),
-        (wire::WAIT_SHORT, []) => put!(out, "WAIT SHORT: then DELAY asks the silent units"),
-        (wire::WAIT_LONG, []) => put!(out, "WAIT LONG: then DELAY asks the silent units"),
-        _ => panic!("order kind {kind} has no words"),
-    }
-}
-
-fn put_pairs(out: &mut Vec<u8>, word: &str, pairs: &[u8]) {
-    put!(out, "{word}");
-    for pair in pairs.chunks_exact(2) {
-        put!(out, " {:02X}.{:02X}", pair[0], pair[1]);
     }
 }

@@ -1,6 +1,8 @@
 //! The words of a command line.
 
 use super::Reason;
+use crate::registry::Pair;
+use crate::sizes::BENCH_PAIRS;
 
 /// What is left of a line.
 pub struct Words<'a>(&'a [u8]);
@@ -10,11 +12,11 @@ impl<'a> Words<'a> {
         Words(line)
     }
 
-    /// The first word; of a word that begins with `>` this is `>` alone.
+    /// The first word; of a word that begins with `>` or `<` this is the mark alone.
     pub fn command(&mut self) -> &'a [u8] {
         self.skip_blanks();
         match self.0.split_first_chunk::<1>() {
-            Some((mark @ b">", rest)) => {
+            Some((mark @ (b">" | b"<"), rest)) => {
                 self.0 = rest;
                 mark
             }
@@ -70,6 +72,28 @@ impl<'a> Words<'a> {
         Ok(bytes)
     }
 
+    /// The bytes of the groups up to two blanks in a row; what stands behind these is not read.
+    pub fn hex_bytes_before_words(&mut self) -> Result<Vec<u8>, Reason> {
+        self.skip_blanks();
+        let end = self.0.windows(2).position(|two| is_blank(two[0]) && is_blank(two[1]));
+        let groups = &self.0[..end.unwrap_or(self.0.len())];
+        self.0 = &[];
+        Words(groups).hex_bytes()
+    }
+
+    /// The pairs that are left.
+    pub fn pairs(&mut self) -> Result<Vec<Pair>, Reason> {
+        let mut pairs = Vec::new();
+        for word in self {
+            let pair = read_pair(word).ok_or("not a pair")?;
+            if pairs.len() == BENCH_PAIRS {
+                return Err("too many");
+            }
+            pairs.push(pair);
+        }
+        Ok(pairs)
+    }
+
     /// No word may be left.
     pub fn end(&mut self) -> Result<(), Reason> {
         match self.next() {
@@ -93,6 +117,16 @@ impl<'a> Iterator for Words<'a> {
 
 fn is_blank(byte: u8) -> bool {
     matches!(byte, b' ' | b'\t')
+}
+
+/// Two hexadecimal digits, a dot, and two more.
+fn read_pair(word: &[u8]) -> Option<Pair> {
+    let &[b0, b1, b'.', n0, n1] = word else {
+        return None;
+    };
+    let digits = [b0, b1, n0, n1];
+    let byte = |high, low| digit_value(high) << 4 | digit_value(low);
+    digits.iter().all(u8::is_ascii_hexdigit).then(|| Pair { block: byte(b0, b1), number: byte(n0, n1) })
 }
 
 /// The byte must be a hexadecimal digit.

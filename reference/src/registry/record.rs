@@ -2,7 +2,7 @@
 
 use super::Pair;
 use crate::sizes::{MAX_NODES, MAX_PAIRS};
-use crate::wire::{ANSWER, ANSWER_HEAD, DELAY, NCE, NONE, RECORD_HEAD, RECORD_MARK, SHUTDOWN, START};
+use crate::wire::{self, ANSWER, ANSWER_HEAD, DELAY, NCE, NONE, RECORD_HEAD, RECORD_MARK, SHUTDOWN, START};
 
 /// The address and the pairs that a unit announces.
 pub struct Announcement<'a> {
@@ -12,7 +12,7 @@ pub struct Announcement<'a> {
 
 impl Announcement<'_> {
     pub fn pairs(&self) -> impl Iterator<Item = Pair> + '_ {
-        self.bytes.chunks_exact(2).map(|pair| Pair { block: pair[0], number: pair[1] })
+        wire::pairs(self.bytes)
     }
 
     pub fn pair(&self, index: u8) -> Option<Pair> {

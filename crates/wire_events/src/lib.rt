@@ -18,26 +18,26 @@ use wire_pairs::PAIR;
 use wire_pairs::Pairs;
 
 // The mark that an event begins with.
-const MARK_FIRST: u8 = 0x4D;
+pub const MARK_FIRST: u8 = 0x4D;
 
-const MARK_SECOND: u8 = 0x45;
+pub const MARK_SECOND: u8 = 0x45;
 
 // Mark, kind, pass and x.
 const HEAD: usize = 8;
 
 // The head of an ANSWER, its address and its count.
-const ANSWER_HEAD: usize = 11;
+pub const ANSWER_HEAD: usize = 11;
 
 // Where the fields of an event stand.
-const KIND: usize = 2;
+pub const KIND: usize = 2;
 
-const PASS: usize = 3;
+pub const PASS: usize = 3;
 
-const X: usize = 7;
+pub const X: usize = 7;
 
-const ADDRESS: usize = 8;
+pub const ADDRESS: usize = 8;
 
-const COUNT: usize = 10;
+pub const COUNT: usize = 10;
 
 // The kinds of events.
 pub const START: u8 = 1;

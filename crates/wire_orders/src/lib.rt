@@ -16,9 +16,9 @@ use wire_pairs::PAIR;
 use wire_pairs::Pairs;
 
 // The mark that an order begins with.
-const MARK_FIRST: u8 = 0x4D;
+pub const MARK_FIRST: u8 = 0x4D;
 
-const MARK_SECOND: u8 = 0x4F;
+pub const MARK_SECOND: u8 = 0x4F;
 
 // Mark, kind and pass.
 pub const HEAD: usize = 7;
@@ -26,7 +26,7 @@ pub const HEAD: usize = 7;
 // Where kind and pass stand in an order.
 pub const KIND: usize = 2;
 
-const PASS: usize = 3;
+pub const PASS: usize = 3;
 
 // What stands behind the head of an ASK: the position.
 pub const ASK_BODY: usize = 1;
@@ -163,7 +163,7 @@ fn least(a: usize, b: usize) -> usize
 }
 
 // The bytes of `n` pairs, those from `from` on.
-fn write_pairs(
+pub fn write_pairs(
     out: &mut [u8],
     at: usize,
     blocks: &[u8],

@@ -16,6 +16,7 @@ use sizes::MAX_PAIRS;
 pub const PAIR: usize = 2;
 
 // The first `count` places hold pairs.
+#[repr(C)]
 pub struct Pairs {
     pub count: usize,
     pub blocks: [u8; MAX_PAIRS],
@@ -23,7 +24,7 @@ pub struct Pairs {
 }
 
 // The two pairs are one.
-fn same(block: u8, number: u8, other_block: u8, other_number: u8) -> bool
+pub fn same(block: u8, number: u8, other_block: u8, other_number: u8) -> bool
     ensures { λ r. ⌜ r ≡ samePair (pairOf block number) (pairOf «other_block» «other_number») ⌝ }
 {
     if block == other_block {

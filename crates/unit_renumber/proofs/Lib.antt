@@ -1,0 +1,2 @@
+-- Laws that several functions' proofs use.
+pub mod Renaming

@@ -1,11 +1,13 @@
-/* Lathepetal: the registry work of a MOST NetworkMaster for one ring, and the cutting and joining of telegrams.
+/* Lathepetal: the registry work of a MOST NetworkMaster for one ring, a unit of that ring to bench a master with, and the cutting and
+ * joining of telegrams.
  *
- * A record (bytes) goes in with the ring picture; the next picture comes back, and the orders stand in a lent buffer. The library is the
- * archive liblathepetal.a for x86-64. It needs memcpy, memmove and memset and nothing else.
+ * A record (bytes) goes in with the ring picture; the next picture comes back, and the orders stand in a lent buffer. An order goes in
+ * with a unit; the unit comes back, and its answer, a record, stands in a lent buffer. The library is the archive liblathepetal.a for
+ * x86-64. It needs memcpy, memmove and memset and nothing else.
  *
  * What a caller keeps to:
  * - A picture handed to lathepetal_record is one that the box handed out, from lathepetal_fresh or from an earlier lathepetal_record,
- *   unchanged. It is plain data and may be copied and stored. The other functions take any picture and any join state.
+ *   unchanged. It is plain data and may be copied and stored. The other functions take any picture, any unit and any join state.
  * - A pointer and the length behind it describe memory that is there: readable where the pointer is const, writable where it is not, and
  *   no longer than PTRDIFF_MAX. A pointer is not NULL, not even with length 0; with length 0 nothing is read or written.
  * - Within one call a lent buffer overlaps nothing else that the call reads or writes.
@@ -14,14 +16,18 @@
  * What the box guarantees, proved for any bytes, numbers and room:
  * - Each call returns, with an answer or with the number of a refusal. The first field of each outcome is that number, 0 where
  *   there is none.
- * - Beside a refusal every length, position, address and MsgID is 0. A refusal changes nothing: the picture or state that comes back is
- *   the one that went in, and the lent buffer is as it was. Two differ in part: 16 ends the open message (the buffer is as it was), and
- *   with 10 lathepetal_fresh hands back a picture for L = 12.
+ * - Beside a refusal every length, position, address and MsgID is 0. A refusal changes nothing: the picture, unit or state that comes back
+ *   is the one that went in, and the lent buffer is as it was. Three differ in part: 16 ends the open message (the buffer is as it was),
+ *   with 10 lathepetal_fresh hands back a picture for L = 12, and with 2 lathepetal_unit a unit without pairs.
  * - Lent bytes beyond those that are written never change.
  * - A picture that is handed out shows no other marks and counts than those that are named below: its state and the status of every entry
  *   are values of their enums, its delay is 0 or 1, it has at most LATHEPETAL_MAX_UNITS units, and no entry has more than
  *   LATHEPETAL_MAX_PAIRS pairs; its address, count, place and tries are 0 where they do not count. That holds for all entries of the
  *   array, also for those behind the last unit.
+ * - A unit that lathepetal_unit makes has at most LATHEPETAL_MAX_PAIRS pairs and keeps at most LATHEPETAL_MAX_ANSWERS answers, and so does
+ *   every unit that comes of it.
+ * - One picture and one unit, both fresh at first, where the unit reads all orders of each record and look-ups are asked and learned
+ *   between records: while the picture is OK, every answer that the unit keeps is in its listing with that address.
  *
  * The box keeps nothing between calls: no globals, no allocation, no locks. Threads may call at the same time, each with its own picture,
  * state and buffers. Stack, with the copies that a call passes and returns: lathepetal_record up to 56 KiB, lathepetal_listing 24 KiB,
@@ -43,16 +49,20 @@ extern "C" {
 #define LATHEPETAL_MAX_PAIRS 24      /* pairs that an entry keeps */
 #define LATHEPETAL_MIN_ROOM 8192     /* the least room for orders, which is enough for each record */
 #define LATHEPETAL_MAX_PAYLOAD 65535 /* the longest message, and the least join buffer */
+#define LATHEPETAL_MAX_ANSWERS 64    /* look-up answers that a unit keeps */
+#define LATHEPETAL_MIN_ANSWER_ROOM 64 /* the least room for a unit's ANSWER, which is enough for each */
 /* The entries of a picture, one for each unit; the places of a listing; the longest telegram. */
 #define LATHEPETAL_MAX_ENTRIES LATHEPETAL_MAX_UNITS
 #define LATHEPETAL_MAX_LISTED (LATHEPETAL_MAX_UNITS * LATHEPETAL_MAX_PAIRS)
 #define LATHEPETAL_MAX_TELEGRAM (6 + LATHEPETAL_MAX_SIZE)
 
-/* Numbers given back. Records are checked in the order 1 to 9, cutting 10, 11, 12, 13, joining 10, 13, 14, 15, 16, look-up 18, 17. */
+/* Numbers given back. Records are checked in the order 1 to 9, cutting 10, 11, 12, 13, joining 10, 13, 14, 15, 16, look-up 18, 17, an
+ * order that a unit reads 1, 2. */
 enum lathepetal_number {
     LATHEPETAL_DONE = 0,
-    LATHEPETAL_ORDER_ROOM_TOO_SHORT = 1, /* order room below LATHEPETAL_MIN_ROOM bytes */
-    LATHEPETAL_RECORD_MALFORMED = 2,     /* length, mark, kind, unused field not 0, N, count above LATHEPETAL_MAX_PAIRS, block 00, 01, FF */
+    LATHEPETAL_ORDER_ROOM_TOO_SHORT = 1, /* order room below LATHEPETAL_MIN_ROOM bytes; of a unit, room below LATHEPETAL_MIN_ANSWER_ROOM */
+    LATHEPETAL_RECORD_MALFORMED = 2,     /* length, mark, kind, unused field not 0, N, count above LATHEPETAL_MAX_PAIRS, block 00, 01, FF;
+                                            an order's length, mark, kind; a unit's pairs above LATHEPETAL_MAX_PAIRS, or half a pair */
     LATHEPETAL_NOT_RUNNING = 3,          /* any kind but START while OFF */
     LATHEPETAL_ALREADY_RUNNING = 4,      /* START while running */
     LATHEPETAL_WRONG_PASS = 5,           /* ANSWER, NONE, DELAY: the pass is not the current one */
@@ -120,6 +130,31 @@ struct lathepetal_flat_listing {
     uint8_t numbers[LATHEPETAL_MAX_LISTED];
 };
 
+/* The list of a unit: the first `count` places of each array. What stands behind them means nothing. */
+struct lathepetal_pairs {
+    size_t count;
+    uint8_t blocks[LATHEPETAL_MAX_PAIRS];
+    uint8_t numbers[LATHEPETAL_MAX_PAIRS];
+};
+
+/* The look-up answers that a unit keeps, each pair once, the oldest first: the first `count` places of each array. What stands behind them
+ * means nothing. */
+struct lathepetal_answers {
+    size_t count;
+    uint16_t addresses[LATHEPETAL_MAX_ANSWERS];
+    uint8_t blocks[LATHEPETAL_MAX_ANSWERS];
+    uint8_t numbers[LATHEPETAL_MAX_ANSWERS];
+};
+
+/* A unit, as the master sees one. */
+struct lathepetal_slave {
+    uint32_t pass;    /* of the last order that it read; 0 at first */
+    uint16_t address; /* logical node address */
+    uint8_t position; /* where it sits */
+    struct lathepetal_pairs pairs;
+    struct lathepetal_answers known;
+};
+
 /* What is remembered between the telegrams of a message. */
 struct lathepetal_join_state {
     uint32_t open; /* 0 where no message is open */
@@ -143,6 +178,17 @@ struct lathepetal_look_up_outcome {
     uint8_t number;
     uint8_t position;
     uint16_t address;
+};
+
+struct lathepetal_unit_outcome {
+    uint8_t number;
+    struct lathepetal_slave unit;
+};
+
+struct lathepetal_unit_read_outcome {
+    uint8_t number;
+    size_t length; /* how many bytes the ANSWER has at the start of `out`; 0 where the unit does not answer */
+    struct lathepetal_slave unit;
 };
 
 struct lathepetal_count_outcome {
@@ -182,6 +228,20 @@ struct lathepetal_flat_listing lathepetal_listing(struct lathepetal_picture pict
 
 /* Where a pair is listed; or 18, or 17. */
 struct lathepetal_look_up_outcome lathepetal_look_up(struct lathepetal_picture picture, uint8_t block, uint8_t number);
+
+/* A unit with the pairs that stand in `pairs`, two bytes each, block and number; or 2, and one with none. Position, address and pairs may be
+ * any; a master takes the ANSWER of a unit without blocks 00, 01 and FF for one. */
+struct lathepetal_unit_outcome lathepetal_unit(uint8_t position, uint16_t address, const uint8_t *pairs, size_t length);
+
+/* Reads one order as lathepetal_record writes them, and writes the ANSWER that it asks for to the start of `out`; or 1 or 2. NOTOK and any
+ * order of another pass than the last one empty the kept answers; INVALID drops those that it names. An ASK for the unit's position is
+ * answered, and so is a SET for its position and address, which renumbers the first such pair if no other pair has the new number. */
+struct lathepetal_unit_read_outcome lathepetal_unit_read(struct lathepetal_slave unit, const uint8_t *order, size_t length, uint8_t *out,
+                                                         size_t room);
+
+/* The unit after a look-up of this pair gave this answer: kept as the newest one, or, where it is a refusal, not at all. */
+struct lathepetal_slave lathepetal_unit_learn(struct lathepetal_slave unit, uint8_t block, uint8_t number,
+                                              struct lathepetal_look_up_outcome answer);
 
 /* How many telegrams a message has; or 10 or 11. */
 struct lathepetal_count_outcome lathepetal_count(size_t l, const uint8_t *payload, size_t length);
@@ -224,6 +284,23 @@ LATHEPETAL_PLACE(flat_listing, positions, 8);
 LATHEPETAL_PLACE(flat_listing, addresses, 8 + LATHEPETAL_MAX_LISTED);
 LATHEPETAL_PLACE(flat_listing, blocks, 8 + 3 * LATHEPETAL_MAX_LISTED);
 LATHEPETAL_PLACE(flat_listing, numbers, 8 + 4 * LATHEPETAL_MAX_LISTED);
+LATHEPETAL_SIZE(pairs, 8 + 2 * LATHEPETAL_MAX_PAIRS);
+LATHEPETAL_PLACE(pairs, blocks, 8);
+LATHEPETAL_PLACE(pairs, numbers, 8 + LATHEPETAL_MAX_PAIRS);
+LATHEPETAL_SIZE(answers, 8 + 4 * LATHEPETAL_MAX_ANSWERS);
+LATHEPETAL_PLACE(answers, addresses, 8);
+LATHEPETAL_PLACE(answers, blocks, 8 + 2 * LATHEPETAL_MAX_ANSWERS);
+LATHEPETAL_PLACE(answers, numbers, 8 + 3 * LATHEPETAL_MAX_ANSWERS);
+LATHEPETAL_SIZE(slave, 8 + sizeof(struct lathepetal_pairs) + sizeof(struct lathepetal_answers));
+LATHEPETAL_PLACE(slave, address, 4);
+LATHEPETAL_PLACE(slave, position, 6);
+LATHEPETAL_PLACE(slave, pairs, 8);
+LATHEPETAL_PLACE(slave, known, 8 + sizeof(struct lathepetal_pairs));
+LATHEPETAL_SIZE(unit_outcome, 8 + sizeof(struct lathepetal_slave));
+LATHEPETAL_PLACE(unit_outcome, unit, 8);
+LATHEPETAL_SIZE(unit_read_outcome, 16 + sizeof(struct lathepetal_slave));
+LATHEPETAL_PLACE(unit_read_outcome, length, 8);
+LATHEPETAL_PLACE(unit_read_outcome, unit, 16);
 LATHEPETAL_SIZE(join_state, 16);
 LATHEPETAL_PLACE(join_state, msg_id, 4);
 LATHEPETAL_PLACE(join_state, counter, 8);

@@ -9,6 +9,8 @@ pub const MAX_LISTED: usize = MAX_UNITS * MAX_PAIRS;
 pub const MIN_ROOM: usize = 8192;
 pub const MAX_TELEGRAM: usize = 6 + MAX_SIZE;
 pub const MAX_PAYLOAD: usize = 65_535;
+pub const MAX_ANSWERS: usize = 64;
+pub const MIN_ANSWER_ROOM: usize = 64;
 
 /// The numbers given back that a program looks for by name; the header has them all.
 pub const DONE: u8 = 0;
@@ -63,6 +65,33 @@ pub struct FlatListing {
 
 #[repr(C)]
 #[derive(Clone, Copy, PartialEq, Eq, Debug)]
+pub struct Pairs {
+    pub count: usize,
+    pub blocks: [u8; MAX_PAIRS],
+    pub numbers: [u8; MAX_PAIRS],
+}
+
+#[repr(C)]
+#[derive(Clone, Copy, PartialEq, Eq, Debug)]
+pub struct Answers {
+    pub count: usize,
+    pub addresses: [u16; MAX_ANSWERS],
+    pub blocks: [u8; MAX_ANSWERS],
+    pub numbers: [u8; MAX_ANSWERS],
+}
+
+#[repr(C)]
+#[derive(Clone, Copy, PartialEq, Eq, Debug)]
+pub struct Slave {
+    pub pass: u32,
+    pub address: u16,
+    pub position: u8,
+    pub pairs: Pairs,
+    pub known: Answers,
+}
+
+#[repr(C)]
+#[derive(Clone, Copy, PartialEq, Eq, Debug)]
 pub struct JoinState {
     pub open: u32,
     pub msg_id: u32,
@@ -92,6 +121,19 @@ pub struct LookUpOutcome {
 }
 
 #[repr(C)]
+pub struct UnitOutcome {
+    pub number: u8,
+    pub unit: Slave,
+}
+
+#[repr(C)]
+pub struct UnitReadOutcome {
+    pub number: u8,
+    pub length: usize,
+    pub unit: Slave,
+}
+
+#[repr(C)]
 pub struct CountOutcome {
     pub number: u8,
     pub telegrams: usize,
@@ -112,13 +154,15 @@ pub struct JoinOutcome {
     pub state: JoinState,
 }
 
-// The sizes that the header asserts: no padding but behind the numbers that stand first.
+// The sizes that the header asserts: no padding but behind the numbers that stand first, and behind the position of a unit.
 const _: () = {
     use std::mem::size_of;
     const ENTRY: usize = 8 + 2 * MAX_PAIRS;
     const PICTURE: usize = 8 + MAX_UNITS * ENTRY;
     assert!(size_of::<Entry>() == ENTRY && size_of::<Picture>() == PICTURE && size_of::<FlatListing>() == 8 + 5 * MAX_LISTED);
     assert!(size_of::<FreshOutcome>() == 4 + PICTURE && size_of::<RecordOutcome>() == 16 + PICTURE && size_of::<LookUpOutcome>() == 4);
+    const SLAVE: usize = 8 + (8 + 2 * MAX_PAIRS) + (8 + 4 * MAX_ANSWERS);
+    assert!(size_of::<Slave>() == SLAVE && size_of::<UnitOutcome>() == 8 + SLAVE && size_of::<UnitReadOutcome>() == 16 + SLAVE);
     assert!(size_of::<CountOutcome>() == 16 && size_of::<CutOutcome>() == 16);
     assert!(size_of::<JoinState>() == 16 && size_of::<JoinOutcome>() == 32);
 };
@@ -131,6 +175,9 @@ mod archive {
         pub fn lathepetal_record(picture: Picture, bytes: *const u8, length: usize, out: *mut u8, room: usize) -> RecordOutcome;
         pub fn lathepetal_listing(picture: Picture) -> FlatListing;
         pub fn lathepetal_look_up(picture: Picture, block: u8, number: u8) -> LookUpOutcome;
+        pub fn lathepetal_unit(position: u8, address: u16, pairs: *const u8, length: usize) -> UnitOutcome;
+        pub fn lathepetal_unit_read(unit: Slave, order: *const u8, length: usize, out: *mut u8, room: usize) -> UnitReadOutcome;
+        pub fn lathepetal_unit_learn(unit: Slave, block: u8, number: u8, answer: LookUpOutcome) -> Slave;
         pub fn lathepetal_count(l: usize, payload: *const u8, length: usize) -> CountOutcome;
         pub fn lathepetal_cut(
             l: usize,
@@ -167,6 +214,21 @@ pub fn listing(picture: Picture) -> FlatListing {
 #[inline(always)]
 pub fn look_up(picture: Picture, block: u8, number: u8) -> LookUpOutcome {
     unsafe { archive::lathepetal_look_up(picture, block, number) }
+}
+
+#[inline(always)]
+pub fn unit(position: u8, address: u16, pairs: &[u8]) -> UnitOutcome {
+    unsafe { archive::lathepetal_unit(position, address, pairs.as_ptr(), pairs.len()) }
+}
+
+#[inline(always)]
+pub fn unit_read(unit: Slave, order: &[u8], out: &mut [u8]) -> UnitReadOutcome {
+    unsafe { archive::lathepetal_unit_read(unit, order.as_ptr(), order.len(), out.as_mut_ptr(), out.len()) }
+}
+
+#[inline(always)]
+pub fn unit_learn(unit: Slave, block: u8, number: u8, answer: LookUpOutcome) -> Slave {
+    unsafe { archive::lathepetal_unit_learn(unit, block, number, answer) }
 }
 
 #[inline(always)]

@@ -77,7 +77,7 @@ module _ (u : Slave) (b : List ℕ) (room : ℕ) (P : Reading → Type 0) where
       go (some s) e = h s e
 
 -- with room enough, an order is read
-read-with-room : (u : Slave) (b : List ℕ) (room : ℕ) (m : Option Sent) → minAnswerRoom ≤ room → decodeOrder b ≡ m → read u b room ≡ onOrder u m
+pub read-with-room : (u : Slave) (b : List ℕ) (room : ℕ) (m : Option Sent) → minAnswerRoom ≤ room → decodeOrder b ≡ m → read u b room ≡ onOrder u m
 unfolding read
 read-with-room u b room m l e = cond-false (refuseOrder 1 u) _ (le-ltb room minAnswerRoom l) ∙ ap (onOrder u) e
 

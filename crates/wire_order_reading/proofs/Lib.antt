@@ -1,2 +1,3 @@
 -- Laws that several functions' proofs use.
+pub mod Lengths
 pub mod Tests

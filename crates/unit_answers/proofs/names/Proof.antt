@@ -6,7 +6,7 @@ use Rattle.wire_pairs.specs.View.{pairOf}
 use Rattle.rules.specs.Event.{readPairs}
 use Rattle.rules.specs.Picture.{holds, samePair}
 use lib.ListN.{drop}
-use mathlib.Core.Path.{_∙_, _≡_, refl, sym}
+use mathlib.Core.Path.{_∙_, _≡_, sym}
 use native.Mathlib.Omega.{arith}
 use borrow.Author.Needs.{needs}
 use Rattle.unit_answers.proofs.names.Statement.{statement}

@@ -1,5 +1,4 @@
 -- One test.
-use Prim.Native.Nat.{ℕ}
 use borrow.Author.Needs.{needs}
 use mathlib.Core.Bool.{Bool, cond}
 use mathlib.Core.Path.{_∙_, ap, sym}

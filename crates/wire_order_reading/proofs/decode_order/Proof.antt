@@ -1,31 +1,18 @@
 -- Length, mark and kind, in the code's order.
-use Prim.Native.Nat.{ℕ, _+_, _*_, _≤_}
-use mathlib.Core.Bool.{Bool, true, false, cond, _||_}
-use mathlib.Core.List.{List}
+use Prim.Native.Nat.{_≤_}
 use native.Mathlib.Omega.{arith}
 use borrow.Author.Needs.{needs}
-use lib.Dec.{eqb}
-use lib.ListN.{length, getD}
-use Rattle.rules_unit.specs.Reading.{lengthBy, orderLength, decodeOrder, sentOf}
+use lib.ListN.{length}
+use Rattle.rules_unit.specs.Reading.{decodeOrder, sentOf}
 use Rattle.wire_order_reading.specs.View.{recordOf}
+use Rattle.wire_order_reading.proofs.Lengths.{head-there}
 use Rattle.wire_order_reading.proofs.Tests.{tests}
 use Rattle.wire_order_reading.proofs.decode_order.Statement.{statement}
 use Rattle.wire_order_reading.proofs.decode_order.Tie as tie
 
--- every order has its head
-head : (b : List ℕ) → 7 ≤ orderLength b
-unfolding orderLength lengthBy
-head b = go (eqb (getD b 2 0) 1) (eqb (getD b 2 0) 2) (eqb (getD b 2 0) 5 || eqb (getD b 2 0) 6) (getD b 7 0)
-  where
-    go : (ask set list : Bool) (n : ℕ) → 7 ≤ cond ask 8 (cond set 13 (cond list (8 + 2 * n) 7))
-    go true set list n = omega arith
-    go false true list n = omega arith
-    go false false true n = omega arith
-    go false false false n = omega arith
-
 -- the length is the order's, so that mark, kind and pass are there
 long : (c : tie.Else1) → 7 ≤ length (c .before .before .before .args .bytes .now)
-long c = omega (arith, head (c .before .before .before .args .bytes .now))
+long c = omega (arith, head-there (c .before .before .before .args .bytes .now))
 
 returns : tie.Need-returns
 unfolding recordOf decodeOrder sentOf

@@ -7,7 +7,7 @@ use Rattle.unit_answers.proofs.Keeping.{moved-end, moved-on, newest-all
 use Rattle.unit_answers.specs.View.{answersOf, knownFrom}
 use lib.ListN.{drop, length, length-set}
 use mathlib.Core.List.{_++_}
-use mathlib.Core.Path.{_∙_, _≡_, refl, sym}
+use mathlib.Core.Path.{_∙_, _≡_, refl}
 use native.Mathlib.Omega.{arith}
 use borrow.Author.Needs.{needs}
 use Rattle.unit_answers.proofs.DecentralRegistry.with_room.Statement.{statement}

@@ -1,0 +1,2 @@
+-- The run of calls.
+pub mod Following

@@ -1,0 +1,3 @@
+-- Laws that several functions' proofs use.
+pub mod Making
+pub mod Hearing

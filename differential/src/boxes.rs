@@ -13,6 +13,7 @@ const _: () = {
     assert!(lathepetal::MIN_SIZE == sizes::MIN_SIZE && lathepetal::MAX_SIZE == sizes::MAX_SIZE);
     assert!(lathepetal::MIN_ROOM == sizes::MIN_ROOM && lathepetal::MAX_PAYLOAD == sizes::MAX_PAYLOAD);
     assert!(lathepetal::MAX_TELEGRAM == sizes::MAX_TELEGRAM);
+    assert!(lathepetal::MAX_ANSWERS == sizes::MAX_KNOWN && lathepetal::MIN_ANSWER_ROOM == sizes::MIN_ANSWER_ROOM);
 };
 
 /// The statuses of a row, by number.

@@ -10,7 +10,7 @@ use crate::{scenes, streams};
 
 const WAITS_SHORT_FOR_EVER: u8 = 0;
 const LOSES_THE_NUMBER_FE: u8 = 1;
-const FORGETS_A_LOOK_UP: u8 = 2;
+pub const FORGETS_A_LOOK_UP: u8 = 2;
 const WRITES_BEHIND_THE_ORDERS: u8 = 3;
 const CHANGES_BESIDE_A_REFUSAL: u8 = 4;
 const LISTS_BEHIND_THE_COUNT: u8 = 5;
@@ -46,7 +46,7 @@ fn row_by_row(met: &Shown, pass: u32) -> Vec<u8> {
 
 /// The reference with one fault.
 #[derive(Clone, PartialEq)]
-struct Faulty<const FAULT: u8>(ReferenceRing);
+pub struct Faulty<const FAULT: u8>(ReferenceRing);
 
 impl<const FAULT: u8> RingBox for Faulty<FAULT> {
     fn fresh(l: usize) -> (u8, Self) {
@@ -183,7 +183,7 @@ fn telegram_fault<const FAULT: u8>() -> Found {
 }
 
 /// The script is one that the player understands, and has so many lines at most that begin with `start`.
-fn is_short<B: Bench>(mut bench: B, found: &Found, start: &str, most: usize) {
+pub fn is_short<B: Bench>(mut bench: B, found: &Found, start: &str, most: usize) {
     println!("# {}\n{}", found.difference.what, found.script);
     let text = String::from_utf8(play_bytes(&mut bench, found.script.as_bytes())).expect("a transcript is text");
     assert!(!text.contains("not understood"), "{text}");
@@ -195,7 +195,7 @@ fn is_short<B: Bench>(mut bench: B, found: &Found, start: &str, most: usize) {
 fn a_long_silence() {
     let found = ring_fault::<WAITS_SHORT_FOR_EVER>();
     is_short(Ringbox::new(), &found, ">", 40);
-    assert!(found.difference.what.starts_with("byte of the order room"));
+    assert!(found.difference.what.starts_with("byte of the room"));
 }
 
 #[test]

@@ -1,18 +1,16 @@
 //! Rings played through both boxes: each record is offered to both, and everything that comes back is compared.
 
 use crate::boxes::{ReferenceRing, RingBox, Shown};
+use crate::lent::{Lent, Names, Pattern};
 use crate::minimize::{minimize, Simpler};
-use crate::script::{differ, differ_at, must, must_at, Difference, Found};
+use crate::script::{differ, differ_at, must, Difference, Found};
 use reference::registry::Ring;
 use reference::sizes::{BENCH_ROOM, MAX_NODES, MIN_ROOM};
 use reference::wire::{event, ADDRESS, ANSWER, ANSWER_HEAD, COUNT, DELAY, KIND, NCE, NONE, PASS, RECORD_HEAD, RECORD_MARK, START, X};
 
-const GUARD: usize = 64;
-/// Lent room begins at this many places in turn, so that it has every alignment.
-const STARTS: usize = 16;
 /// The most order room that is lent; a script can lend less.
 pub const MOST_ROOM: usize = 2 * MIN_ROOM;
-const AREA: usize = STARTS + MOST_ROOM + 2 * GUARD;
+const NAMES: Names = Names { number: "number of the record", length: "length of the orders" };
 
 /// One step of a session.
 #[derive(Clone)]
@@ -31,7 +29,7 @@ impl Step {
             Some(pass) => pass.wrapping_sub(current_pass),
             None => 0,
         };
-        Step::Record { bytes: bytes.to_vec(), ahead, room, fill: fill % AREA }
+        Step::Record { bytes: bytes.to_vec(), ahead, room, fill }
     }
 
     /// An NCE as a START.
@@ -124,31 +122,34 @@ fn nodes(bytes: &[u8]) -> Option<u8> {
     (bytes.len() == RECORD_HEAD && matches!(bytes[KIND], START | NCE)).then(|| bytes[X])
 }
 
-/// One ring in both boxes. The pattern is what lent room is filled with.
+/// One ring in both boxes.
 pub struct Player<P> {
     proved: P,
     reference: ReferenceRing,
     shown: Shown,
-    pattern: Vec<u8>,
-    rooms: [Vec<u8>; 2],
+    lent: Lent,
 }
 
 impl<P: RingBox> Player<P> {
     /// Fresh pictures for L; a bad L leaves both with one for 12.
-    pub fn fresh(l: usize, pattern: Vec<u8>) -> Result<Player<P>, Difference> {
-        assert_eq!(pattern.len(), 2 * AREA);
+    pub fn fresh(l: usize, pattern: Pattern) -> Result<Player<P>, Difference> {
         let (proved_number, proved) = P::fresh(l);
         let (number, reference) = ReferenceRing::fresh(l);
         differ("number of fresh", proved_number, number)?;
         let shown = reference.show();
-        let player = Player { proved, reference, shown, pattern, rooms: [vec![0; AREA], vec![0; AREA]] };
+        let player = Player { proved, reference, shown, lent: Lent::new(NAMES, pattern) };
         player.compare_shown()?;
         Ok(player)
     }
 
-    /// A pattern made from random words.
-    pub fn pattern(mut word: impl FnMut() -> u64) -> Vec<u8> {
-        (0..2 * AREA / 8).flat_map(|_| word().to_le_bytes()).collect()
+    /// A pattern for the room that is lent.
+    pub fn pattern(word: impl FnMut() -> u64) -> Pattern {
+        Pattern::new(MOST_ROOM, word)
+    }
+
+    /// The ring of the proved side.
+    pub fn proved(&self) -> &P {
+        &self.proved
     }
 
     /// The reference's ring.
@@ -171,16 +172,12 @@ impl<P: RingBox> Player<P> {
                 self.compare_shown()?;
                 Ok((0, &[]))
             }
-            Step::Record { room, fill, .. } => {
-                let start = fill % STARTS;
-                let bytes = [&[0; STARTS][..start], &self.bytes_of(step)].concat();
-                self.offer(&bytes[start..], *room, *fill)
-            }
+            Step::Record { room, fill, .. } => self.offer(&self.bytes_of(step), *room, *fill),
         }
     }
 
     /// The bytes of a record in the current pass.
-    fn bytes_of(&self, step: &Step) -> Vec<u8> {
+    pub fn bytes_of(&self, step: &Step) -> Vec<u8> {
         let Step::Record { bytes, ahead, .. } = step else { return Vec::new() };
         let mut bytes = bytes.clone();
         if carried_pass(&bytes).is_some() {
@@ -190,33 +187,17 @@ impl<P: RingBox> Player<P> {
     }
 
     fn offer(&mut self, bytes: &[u8], room: usize, fill: usize) -> Result<(u8, &[u8]), Difference> {
-        let Player { proved, reference, pattern, rooms: [proved_room, reference_room], .. } = self;
-        let start = GUARD + fill % STARTS;
-        let end = start + room;
-        let area = end + GUARD;
-        let pattern = &pattern[fill..fill + area];
-        proved_room[..area].copy_from_slice(pattern);
-        reference_room[..area].copy_from_slice(pattern);
+        let Player { proved, reference, lent, .. } = self;
         let before = (proved.clone(), reference.clone());
-
-        let (proved_number, proved_length) = proved.record(bytes, &mut proved_room[start..end]);
-        let (number, length) = reference.record(bytes, &mut reference_room[start..end]);
-
-        differ("number of the record", proved_number, number)?;
-        differ("length of the orders", proved_length, length)?;
-        differ_at("byte of the order room", &proved_room[start..end], &reference_room[start..end])?;
-        let written = start + length;
-        must_at("proved: byte in front of the room", &proved_room[..start], &pattern[..start])?;
-        must_at("proved: byte behind the orders", &proved_room[written..area], &pattern[written..])?;
-        must_at("reference: byte behind the orders", &reference_room[written..area], &pattern[written..])?;
+        let (number, length) =
+            lent.offer(bytes, room, fill, |bytes, out| proved.record(bytes, out), |bytes, out| reference.record(bytes, out))?;
         if number != 0 {
             must("proved: picture unchanged by a refusal", *proved == before.0, true)?;
             must("reference: picture unchanged by a refusal", *reference == before.1, true)?;
-            must("proved: length beside a refusal", proved_length, 0)?;
         }
         self.shown = self.reference.show();
         self.compare_shown()?;
-        Ok((number, &self.rooms[1][start..written]))
+        Ok((number, self.lent.written(length)))
     }
 
     fn compare_shown(&self) -> Result<(), Difference> {
@@ -249,13 +230,14 @@ impl<P: RingBox> Player<P> {
         Ok(reference.blocks[..count].iter().copied().zip(reference.numbers[..count].iter().copied()).collect())
     }
 
-    pub fn compare_look_up(&self, block: u8, number: u8) -> Result<(), Difference> {
+    /// Compares a look-up; gives its number, position and address.
+    pub fn compare_look_up(&self, block: u8, number: u8) -> Result<(u8, u8, u16), Difference> {
         let (proved, reference) = (self.proved.look_up(block, number), self.reference.look_up(block, number));
-        if proved == reference {
-            return Ok(());
+        if proved != reference {
+            differ(&format!("lookup {block:02X} {number:02X} (number, position, address)"), proved, reference)
+                .map_err(|difference| difference.shown_by(format!("lookup {block:02X} {number:02X}")))?;
         }
-        differ(&format!("lookup {block:02X} {number:02X} (number, position, address)"), proved, reference)
-            .map_err(|difference| difference.shown_by(format!("lookup {block:02X} {number:02X}")))
+        Ok(reference)
     }
 
     /// Compares the listing, the look-up of each listed pair, of its neighbours and of pairs at the edges: how many pairs are listed.
@@ -276,7 +258,7 @@ impl<P: RingBox> Player<P> {
 /// A session as far as it is played.
 pub struct Session {
     pub l: usize,
-    pub pattern: Vec<u8>,
+    pub pattern: Pattern,
     pub steps: Vec<Step>,
 }
 
@@ -303,7 +285,7 @@ impl Session {
             false => self.steps.clone(),
         };
         let difference = self.replay::<P>(&steps).unwrap_or(found);
-        Found { script: self.script::<P>(&steps, &difference), difference }
+        Found { program: "ringbox", script: self.script::<P>(&steps, &difference), difference }
     }
 
     /// Steps as a bench script for `ringbox`.
@@ -337,7 +319,7 @@ impl Session {
 }
 
 /// The normal form of a record.
-fn hex_of_record(bytes: &[u8]) -> String {
+pub fn hex_of_record(bytes: &[u8]) -> String {
     let mut text = String::new();
     for (index, byte) in bytes.iter().enumerate() {
         let pairs = bytes.get(KIND) == Some(&ANSWER) && (index == COUNT || index >= ANSWER_HEAD && (index - ANSWER_HEAD) % 2 == 0);

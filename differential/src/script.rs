@@ -29,10 +29,20 @@ impl From<Difference> for Stop {
     }
 }
 
-/// A difference and the shortest script that shows it.
+/// A difference and the shortest script that shows it, with the program that plays it.
 pub struct Found {
     pub difference: Difference,
+    pub program: &'static str,
     pub script: String,
+}
+
+/// A comment where a value is beyond what a script can say.
+pub fn beyond(value: usize, limit: usize) -> String {
+    if value > limit {
+        format!("# no script can say {value} here\n")
+    } else {
+        String::new()
+    }
 }
 
 /// Nothing where both boxes gave the same.

@@ -2,7 +2,7 @@
 
 use crate::boxes::{ReferenceTelegrams, TelegramBox};
 use crate::minimize::{minimize, Simpler};
-use crate::script::{differ, differ_at, must, must_at, Difference, Found};
+use crate::script::{beyond, differ, differ_at, must, must_at, Difference, Found};
 use reference::player::fill;
 use reference::refusal::OUT_OF_SEQUENCE;
 use reference::sizes::{BENCH_PAYLOAD, MAX_PAYLOAD};
@@ -77,15 +77,6 @@ impl Step {
                 format!("{notes}join {l} {room} {}\n", words.trim_end())
             }
         }
-    }
-}
-
-/// A comment where a value is beyond what a script can say.
-fn beyond(value: usize, limit: usize) -> String {
-    if value > limit {
-        format!("# no script can say {value} here\n")
-    } else {
-        String::new()
     }
 }
 
@@ -217,5 +208,5 @@ pub fn explain<P: TelegramBox>(steps: &[Step], found: Difference) -> Found {
         false => steps.to_vec(),
     };
     let difference = replay::<P>(&steps).unwrap_or(found);
-    Found { difference, script: steps.iter().map(Step::line).collect() }
+    Found { difference, program: "telegrams", script: steps.iter().map(Step::line).collect() }
 }

@@ -1,6 +1,5 @@
 // The ring box at the bench: a script from standard input, answered line by line. See docs/BENCH-SCRIPT.md.
 mod command;
-mod fields;
 mod help;
 mod order_lines;
 mod show;
@@ -95,7 +94,7 @@ fn echo(output: Output, text: &mut [u8; SPACE], record: &[u8]) -> Output {
         return mark.line_end(text);
     }
     let blank = mark.byte(text, b' ');
-    let told = fields::spaced(blank, text, record, false);
+    let told = text_records::spaced(blank, text, record, false);
     told.line_end(text)
 }
 
@@ -145,7 +144,7 @@ fn offer_if_fits(
     ensures { λ r. ⌜ HandedOut (r .picture) ⌝ }
 {
     let length = smaller(n, record.len());
-    if fields::wider(&record[0..length], MAX_LINE - 2) {
+    if text_records::too_wide(&record[0..length], false) {
         return not_understood(bench, text, line, TOO_LONG);
     }
     let room = smaller(bench.room, orders.len());
@@ -234,7 +233,7 @@ fn answer(
     requires { ⌜ HandedOut (bench .picture) ⌝ }
     ensures { λ r. ⌜ HandedOut (r .picture) ⌝ }
 {
-    let kind = text_answers::kind_of(line);
+    let kind = text_answers::kind_of(line, b'<');
     match kind {
         LineKind::Remark => {
             let output = bench.output;

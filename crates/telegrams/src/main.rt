@@ -384,7 +384,7 @@ fn answer(
     room: &mut [u8],
     buffer: &mut [u8],
 ) -> Desk {
-    let kind = text_answers::kind_of(line);
+    let kind = text_answers::kind_of(line, b'<');
     let output = desk.output;
     match kind {
         LineKind::Remark => with_output(desk, output.line(text, line)),

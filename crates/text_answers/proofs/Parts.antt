@@ -1,10 +1,10 @@
 -- A line's kind by its first byte, and the parts of what is said.
-use Prim.Native.Nat.{ℕ, _-_, _≤_}
+use Prim.Native.Nat.{ℕ, _-_}
 use mathlib.Core.Path.{_≡_, refl, sym, _∙_, ap}
-use mathlib.Core.Bool.{Bool, true, false, cond, _||_}
+use mathlib.Core.Bool.{Bool, cond, _||_}
 use mathlib.Core.List.{List, [], _∷_, _++_}
 use native.Mathlib.Omega.{arith}
-use borrow.Author.Tests.{eq-eqb, ne-eqb, eqb-false}
+use borrow.Author.Tests.{eq-eqb, ne-eqb}
 use lib.Dec.{eqb}
 use lib.ListN.{length, take}
 use Rattle.laws.specs.Bools.{cond-true, cond-false, or-false, or-true-left, or-true-right}
@@ -16,33 +16,32 @@ use Rattle.text_answers.specs.Remarks.{kindOf, toldOf, shownOf, spacedOf
 use Rattle.text_answers.specs.declared.LineKind.the-variants.{Remark, EarlierAnswer, Offer}
 
 -- a line without a byte, and one with a first byte: a remark, an earlier answer, an offer
-pub kind-empty : (xs : List ℕ) → length xs ≡ 0 → Remark ≡ kindOf xs
+pub kind-empty : (other : ℕ) (xs : List ℕ) → length xs ≡ 0 → Remark ≡ kindOf other xs
 unfolding kindOf
-kind-empty [] h = refl
-kind-empty (x ∷ xs) h = absurd (omega (arith, h))
+kind-empty other [] h = refl
+kind-empty other (x ∷ xs) h = absurd (omega (arith, h))
 
-module _ {x : ℕ} {xs rest : List ℕ} (e : xs ≡ x ∷ rest) where
-  pub kind-remark : x ≡ 35 → Remark ≡ kindOf xs
+module _ (other : ℕ) {x : ℕ} {xs rest : List ℕ} (e : xs ≡ x ∷ rest) where
+  pub kind-remark : x ≡ 35 → Remark ≡ kindOf other xs
   unfolding kindOf
-  kind-remark h = sym (ap kindOf e ∙ cond-true _ _ (eq-eqb x 35 h))
+  kind-remark h = sym (ap (kindOf other) e ∙ cond-true _ _ (eq-eqb x 35 h))
 
   module _ (n : x ≡ 35 → ⊥) where
-    kind-else : {b : Bool} → (eqb x 61 || (eqb x 60 || eqb x 33)) ≡ b → kindOf xs ≡ cond b EarlierAnswer Offer
+    kind-else : {b : Bool} → (eqb x 61 || (eqb x other || eqb x 33)) ≡ b → cond b EarlierAnswer Offer ≡ kindOf other xs
     unfolding kindOf
-    kind-else h = ap kindOf e ∙ cond-false _ _ (ne-eqb x 35 n) ∙ ap (λ (b : Bool). cond b EarlierAnswer Offer) h
+    kind-else h = sym (ap (kindOf other) e ∙ cond-false _ _ (ne-eqb x 35 n) ∙ ap (λ (b : Bool). cond b EarlierAnswer Offer) h)
 
-    pub kind-refused : x ≡ 33 → EarlierAnswer ≡ kindOf xs
-    kind-refused h = sym (kind-else (or-true-right (eqb x 61) (eqb x 60 || eqb x 33) (or-true-right (eqb x 60) (eqb x 33) (eq-eqb x 33 h))))
+    pub kind-answered : x ≡ 61 → EarlierAnswer ≡ kindOf other xs
+    kind-answered h = kind-else (or-true-left (eqb x 61) _ (eq-eqb x 61 h))
 
-    pub kind-answered : 60 ≤ x → x ≤ 61 → EarlierAnswer ≡ kindOf xs
-    kind-answered l m = sym (kind-else (go (eqb x 61) refl))
-      where
-        go : (b : Bool) → eqb x 61 ≡ b → (b || (eqb x 60 || eqb x 33)) ≡ true
-        go true k = refl
-        go false k = or-true-left (eqb x 60) (eqb x 33) (eq-eqb x 60 (omega (arith, l, m, eqb-false x 61 k)))
+    pub kind-other : x ≡ other → EarlierAnswer ≡ kindOf other xs
+    kind-other h = kind-else (or-true-right (eqb x 61) _ (or-true-left (eqb x other) _ (eq-eqb x other h)))
 
-    pub kind-offer : (x ≡ 33 → ⊥) → (x ≡ 60 → ⊥) → (x ≡ 61 → ⊥) → Offer ≡ kindOf xs
-    kind-offer a b c = sym (kind-else (or-false _ _ (ne-eqb x 61 c) (or-false _ _ (ne-eqb x 60 b) (ne-eqb x 33 a))))
+    pub kind-refused : x ≡ 33 → EarlierAnswer ≡ kindOf other xs
+    kind-refused h = kind-else (or-true-right (eqb x 61) _ (or-true-right (eqb x other) _ (eq-eqb x 33 h)))
+
+    pub kind-offer : (x ≡ 61 → ⊥) → (x ≡ other → ⊥) → (x ≡ 33 → ⊥) → Offer ≡ kindOf other xs
+    kind-offer a b c = kind-else (or-false _ _ (ne-eqb x 61 a) (or-false _ _ (ne-eqb x other b) (ne-eqb x 33 c)))
 
 -- a blank before bytes
 pub spaced-none : (xs : List ℕ) → length xs ≡ 0 → 10 ∷ [] ≡ lined (spacedOf xs)

@@ -1,4 +1,4 @@
--- What both programs say of a line: a comment, a line that is not understood, a refusal.
+-- What the programs say of a line: a comment, a line that is not understood, a refusal.
 use Prim.Native.Nat.{ℕ, _-_}
 use Prim.Native.Char.{code}
 use mathlib.Core.Bool.{cond, _||_}
@@ -14,10 +14,11 @@ use Rattle.text_numbers.specs.Wording.{wordsOf, whyOf}
 use Rattle.text_answers.specs.declared.LineKind.{LineKind}
 use Rattle.text_answers.specs.declared.LineKind.the-variants.{Remark, EarlierAnswer, Offer}
 
--- a line without a byte, and one with # in front, is a remark; =, < and ! stand in front of earlier answers
-unfoldable pub kindOf : List ℕ → LineKind
-kindOf [] = Remark
-kindOf (x ∷ xs) = cond (eqb x (code "#")) Remark (cond (eqb x (code "=") || (eqb x (code "<") || eqb x (code "!"))) EarlierAnswer Offer)
+-- a line without a byte, and one with # in front, is a remark; = and ! stand in front of earlier answers, and so does `other`, which is
+-- in front of the other side's lines: < for who offers records, > for who offers orders
+unfoldable pub kindOf : ℕ → List ℕ → LineKind
+kindOf other [] = Remark
+kindOf other (x ∷ xs) = cond (eqb x (code "#")) Remark (cond (eqb x (code "=") || (eqb x other || eqb x (code "!"))) EarlierAnswer Offer)
 
 -- the reason of a line that is too long
 abbrev pub tooLong : ℕ

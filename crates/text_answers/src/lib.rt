@@ -1,4 +1,4 @@
-// What both programs say of a line: a comment, a line that is not understood, a refusal.
+// What the programs say of a line: a comment, a line that is not understood, a refusal.
 ghost use mathlib.Core.Path.{_≡_};
 ghost use Prim.Native.Nat.{_≤_};
 ghost use lib.ListN.{length};
@@ -22,19 +22,27 @@ pub enum LineKind {
     Offer,
 }
 
-// The kind of a line.
-pub fn kind_of(line: &[u8]) -> LineKind
-    ensures { λ r. ⌜ r ≡ kindOf (now (line .entry)) ⌝ }
+// The kind of a line; `other` stands in front of the other side's lines.
+pub fn kind_of(line: &[u8], other: u8) -> LineKind
+    ensures { λ r. ⌜ r ≡ kindOf other (now (line .entry)) ⌝ }
 {
     if line.len() == 0 {
         return LineKind::Remark;
     }
     let first = line[0];
-    match first {
-        b'#' => LineKind::Remark,
-        b'=' | b'<' | b'!' => LineKind::EarlierAnswer,
-        _ => LineKind::Offer,
+    if first == b'#' {
+        return LineKind::Remark;
     }
+    if first == b'=' {
+        return LineKind::EarlierAnswer;
+    }
+    if first == other {
+        return LineKind::EarlierAnswer;
+    }
+    if first == b'!' {
+        return LineKind::EarlierAnswer;
+    }
+    LineKind::Offer
 }
 
 // The reason that is told: also where the comment would be too long.

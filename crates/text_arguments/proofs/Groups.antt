@@ -1,63 +1,20 @@
--- Groups of hexadecimal digits: the words of a line one by one, and the bytes that each of them adds.
-use Prim.Native.Nat.{ℕ, suc, _+_, _-_, _%_, _≤_, _<_, min}
+-- Groups of hexadecimal digits: the bytes that each of them adds.
+use Prim.Native.Nat.{ℕ, _+_, _-_, _%_, _≤_, _<_, min}
 use mathlib.Core.Path.{_≡_, refl, sym, _∙_, ap}
-use mathlib.Core.Bool.{Bool, true, false, cond, not}
-use mathlib.Core.List.{List, [], _∷_, _++_, append-assoc, append-nil}
-use native.Mathlib.Nat.{not-suc-le-zero}
+use mathlib.Core.Bool.{true, false}
+use mathlib.Core.List.{List, [], _∷_, _++_}
 use native.Mathlib.Omega.{arith}
 use borrow.Author.Tests.{eq-eqb, ne-eqb}
 use lib.Dec.{eqb}
-use lib.ListN.{length, drop, take, length-take, length-drop, drop-of-length-le}
-use lib.Seq.{sets, drop-drop}
+use lib.ListN.{length, drop, take, length-take, drop-of-length-le}
+use lib.Seq.{sets}
 use Rattle.laws.specs.Bools.{cond-true, cond-false}
 use Rattle.laws.specs.Buffers.{Wrote, Owes, owes-start, owes-on, owes-end}
-use Rattle.laws.specs.Runs.{leading, leading-again}
-use Rattle.text_words.specs.Text.{isBlank, blanks, glyphs, allDigits, byteOf, bytesOf}
+use Rattle.text_words.specs.Text.{blanks, glyphs, allDigits, byteOf, bytesOf}
 use Rattle.text_arguments.specs.Reading.{understood, noHex, oddHex, found, none, wordsFrom, wordsOf, groupReason, groupsBytes, groupsReason, bytesFound, bytesAt, bytesStored}
 use Rattle.text_arguments.specs.declared.Argument.{Argument}
 use Rattle.text_arguments.proofs.Taking.{behind-right}
-
--- blanks before a word do no harm
-words-skip : (xs : List ℕ) → wordsOf (drop (blanks xs) xs) ≡ wordsOf xs
-unfolding wordsFrom leading
-words-skip [] = refl
-words-skip (x ∷ xs) = go (isBlank x) refl (words-skip xs)
-  where
-    go : (b : Bool) → isBlank x ≡ b → wordsOf (drop (blanks xs) xs) ≡ wordsOf xs → wordsOf (drop (cond b (suc (blanks xs)) 0) (x ∷ xs)) ≡ wordsOf (x ∷ xs)
-    go true e h = h ∙ sym (cond-true (wordsOf xs) (wordsFrom (x ∷ []) xs) e)
-    go false e h = refl
-
--- the rest of a word that has begun, and the words behind it
-words-taken : (x : ℕ) (w xs : List ℕ) → wordsFrom (x ∷ w) xs ≡ (x ∷ (w ++ take (glyphs xs) xs)) ∷ wordsOf (drop (glyphs xs) xs)
-unfolding wordsFrom leading
-words-taken x w [] = ap (λ (l : List ℕ). (x ∷ l) ∷ []) (sym (append-nil w))
-words-taken x w (y ∷ ys) = go (isBlank y) refl (words-taken x (w ++ y ∷ []) ys)
-  where
-    go : (b : Bool) → isBlank y ≡ b → wordsFrom (x ∷ (w ++ y ∷ [])) ys ≡ (x ∷ ((w ++ y ∷ []) ++ take (glyphs ys) ys)) ∷ wordsOf (drop (glyphs ys) ys)
-        → cond b ((x ∷ w) ∷ wordsOf ys) (wordsFrom (x ∷ (w ++ y ∷ [])) ys)
-        ≡ (x ∷ (w ++ take (cond (not b) (suc (glyphs ys)) 0) (y ∷ ys))) ∷ wordsOf (drop (cond (not b) (suc (glyphs ys)) 0) (y ∷ ys))
-    go true e h = sym (λ t. (x ∷ append-nil w t) ∷ cond-true (wordsOf ys) (wordsFrom (y ∷ []) ys) e t)
-    go false e h = h ∙ ap (λ (l : List ℕ). (x ∷ l) ∷ wordsOf (drop (glyphs ys) ys)) (append-assoc w (y ∷ []) (take (glyphs ys) ys))
-
--- a text that begins with no blank begins with a word
-words-group : (xs : List ℕ) → blanks xs ≡ 0 → 0 < length xs → wordsOf xs ≡ take (glyphs xs) xs ∷ wordsOf (drop (glyphs xs) xs)
-unfolding wordsFrom leading
-words-group [] h l = absurd (not-suc-le-zero l)
-words-group (x ∷ xs) h l = go (isBlank x) h (words-taken x [] xs)
-  where
-    go : (b : Bool) → cond b (suc (blanks xs)) 0 ≡ 0 → wordsFrom (x ∷ []) xs ≡ (x ∷ take (glyphs xs) xs) ∷ wordsOf (drop (glyphs xs) xs)
-        → cond b (wordsOf xs) (wordsFrom (x ∷ []) xs) ≡ take (cond (not b) (suc (glyphs xs)) 0) (x ∷ xs) ∷ wordsOf (drop (cond (not b) (suc (glyphs xs)) 0) (x ∷ xs))
-    go true k m = absurd (omega (arith, k))
-    go false k m = m
-
-words-some : (xs : List ℕ) → blanks xs ≡ 0 → 0 < length xs → 0 < glyphs xs
-unfolding leading
-words-some [] h l = l
-words-some (x ∷ xs) h l = go (isBlank x) h
-  where
-    go : (b : Bool) → cond b (suc (blanks xs)) 0 ≡ 0 → 0 < cond (not b) (suc (glyphs xs)) 0
-    go true k = omega (arith, k)
-    go false k = omega arith
+use Rattle.text_arguments.proofs.Words.{skip-clear, skip-words, word-is}
 
 -- two digits are the next byte; fewer are none
 pub bytes-two : {x y : ℕ} {xs rest : List ℕ} → xs ≡ x ∷ y ∷ rest → bytesOf xs ≡ (byteOf x y ∷ []) ++ bytesOf rest
@@ -98,19 +55,8 @@ pub record Left (line : List ℕ) (first : ℕ) (before : List ℕ) (start count
   pub reason : groupsReason (wordsOf (drop start line)) ≡ groupsReason (wordsOf (drop first line))
 
 module _ (line : List ℕ) where
-  -- from a place to the word behind its blanks
-  module _ (at : ℕ) {start : ℕ} (s : start ≡ at + blanks (drop at line)) where
-    skipped : drop start line ≡ drop (blanks (drop at line)) (drop at line)
-    skipped = ap (λ (n : ℕ). drop n line) s ∙ sym (drop-drop (blanks (drop at line)) at line)
-
-    skip-clear : blanks (drop start line) ≡ 0
-    skip-clear = ap (leading isBlank) skipped ∙ leading-again isBlank (drop at line)
-
-    skip-words : wordsOf (drop start line) ≡ wordsOf (drop at line)
-    skip-words = ap wordsOf skipped ∙ words-skip (drop at line)
-
-    pub left-start : (b : List ℕ) → Left line start b start 0 b
-    left-start b = record { few = omega arith; clear = skip-clear; owes = owes-start b 0 _; reason = refl }
+  pub left-start : (at : ℕ) {start : ℕ} → start ≡ at + blanks (drop at line) → (b : List ℕ) → Left line start b start 0 b
+  left-start at s b = record { few = omega arith; clear = skip-clear line at s; owes = owes-start b 0 _; reason = refl }
 
   module _ {first start count : ℕ} {before after : List ℕ} (l : Left line first before start count after) where
     left-end : length line ≤ start → Wrote before 0 (groupsBytes (wordsOf (drop first line))) count after × (groupsReason (wordsOf (drop first line)) ≡ understood)
@@ -122,14 +68,7 @@ module _ (line : List ℕ) where
     module _ {end : ℕ} (h : start < length line) (e : end ≡ start + glyphs (drop start line)) where
       -- the next word is a group
       group-is : wordsOf (drop start line) ≡ take (end - start) (drop start line) ∷ wordsOf (drop end line)
-      group-is =
-          let n : glyphs (drop start line) ≡ end - start = omega arith in
-          words-group (drop start line) (l .clear) (omega (arith, length-drop start line))
-          ∙ (λ t. take (n t) (drop start line) ∷ wordsOf (drop-drop (glyphs (drop start line)) start line t))
-          ∙ ap (λ (m : ℕ). take (end - start) (drop start line) ∷ wordsOf (drop m line)) (sym e)
-
-      pub group-some : start < end
-      group-some = omega (arith, words-some (drop start line) (l .clear) (omega (arith, length-drop start line)))
+      group-is = word-is line (l .clear) h e
 
       -- it has no bytes, and it says why
       module _ {r : ℕ} (g : r ≡ groupReason (take (end - start) (drop start line))) (k : r ≡ understood → ⊥) where
@@ -151,10 +90,10 @@ module _ (line : List ℕ) where
       left-on {next} {more} {stored} g w s =
           let t = eq-eqb (groupReason (take (end - start) (drop start line))) understood g in
           let whole = ap groupsBytes group-is ∙ cond-true _ _ t in
-          let rest = skip-words end s in
+          let rest = skip-words line end s in
           record {
             few = omega (arith, l .few, w .place, bytes-few (take (end - start) (drop start line)), length-take (end - start) (drop start line), s);
-            clear = skip-clear end s;
+            clear = skip-clear line end s;
             owes = owes-on (bytesOf (take (end - start) (drop start line))) (whole ∙ ap (λ (ws : List (List ℕ)). bytesOf (take (end - start) (drop start line)) ++ groupsBytes ws) (sym rest)) w (l .owes);
             reason = ap groupsReason rest ∙ sym (cond-true _ _ t) ∙ sym (ap groupsReason group-is) ∙ l .reason;
           }

@@ -34,6 +34,12 @@ wrongHex = 7
 abbrev pub wordTooMany : ℕ
 wordTooMany = 8
 
+abbrev pub noPair : ℕ
+noPair = 10
+
+abbrev pub tooMany : ℕ
+tooMany = 11
+
 -- the limit of a number that has no other
 abbrev pub anyNumber : ℕ
 anyNumber = 4294967295

@@ -31,6 +31,10 @@ pub const WORD_TOO_MANY: u8 = 8;
 
 pub const TOO_LONG: u8 = 9;
 
+pub const NO_PAIR: u8 = 10;
+
+pub const TOO_MANY: u8 = 11;
+
 // The limit of a number that has no other.
 const ANY: u32 = 4294967295;
 
@@ -54,7 +58,7 @@ impl Argument {
     }
 
     // None, for this reason.
-    fn wrong(reason: u8) -> Self
+    pub fn wrong(reason: u8) -> Self
         ensures { λ r. ⌜ r ≡ none reason ⌝ }
     {
         Argument {
@@ -182,7 +186,7 @@ fn group_reason(group: &[u8]) -> u8
 }
 
 // A byte at this place, if there is room for it.
-fn put(bytes: &mut [u8], at: usize, byte: u8)
+pub fn put(bytes: &mut [u8], at: usize, byte: u8)
     ensures { λ r. ⌜ now (bytes .exit) ≡ set (now (bytes .entry)) at byte ⌝ }
 {
     if at < bytes.len() {

@@ -3,12 +3,12 @@ use Prim.Native.Nat.{ℕ}
 use mathlib.Core.Bool.{cond}
 use mathlib.Core.List.{List, [], _∷_}
 use lib.Dec.{eqb}
-use Rattle.rules.specs.House.{minSize, maxSize, minRoom, maxPayload}
+use Rattle.rules.specs.House.{minSize, maxSize, maxPairs, minRoom, minAnswerRoom, maxPayload}
 use Rattle.text_in.specs.Lines.{maxLine}
 use Rattle.text_out.specs.Spelling.{filled}
 use Rattle.text_out.specs.Texts.{codes}
 use Rattle.text_numbers.specs.declared.Asked.{Asked}
-use Rattle.text_numbers.specs.declared.Asked.the-variants.{Record, Picture, Telegram, LookUp}
+use Rattle.text_numbers.specs.declared.Asked.the-variants.{Record, Picture, Telegram, LookUp, Order, Unit}
 
 -- a table: numbers, and the words of each
 abbrev pub Table : Type 0
@@ -60,12 +60,22 @@ ofTelegram =
 unfoldable pub ofLookUp : Table
 ofLookUp = (17, codes "not listed") ∷ (18, codes "the state is not OK") ∷ []
 
+-- an order
+unfoldable pub ofOrder : Table
+ofOrder = (1, filled (codes "room below %d bytes") (minAnswerRoom ∷ [])) ∷ (2, codes "order malformed") ∷ []
+
+-- a unit
+unfoldable pub ofUnit : Table
+ofUnit = (2, filled (codes "more than %d pairs") (maxPairs ∷ [])) ∷ []
+
 -- the table by what was asked, and what a number given back means
 unfoldable pub tableOf : Asked → Table
 tableOf Record = ofRecord
 tableOf Picture = ofPicture
 tableOf Telegram = ofTelegram
 tableOf LookUp = ofLookUp
+tableOf Order = ofOrder
+tableOf Unit = ofUnit
 
 abbrev pub wordsOf : Asked → ℕ → List ℕ
 wordsOf asked n = wordsBeside (tableOf asked) n
@@ -82,6 +92,8 @@ reasons =
     ∷ (7, codes "wrong number of hex digits")
     ∷ (8, codes "a word too many")
     ∷ (9, filled (codes "line of more than %d bytes") (maxLine ∷ []))
+    ∷ (10, codes "not a pair")
+    ∷ (11, codes "too many")
     ∷ []
 
 abbrev pub whyOf : ℕ → List ℕ

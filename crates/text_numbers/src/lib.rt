@@ -1,7 +1,7 @@
 // The words of a number: what a refusal means, by what was asked, and why a line is not understood.
 ghost use Rattle.text_out.specs.Puts.{Puts};
 ghost use Rattle.text_out.specs.Spelling.{lined};
-ghost use Rattle.text_numbers.specs.Wording.{noWords, wordsBeside, ofRecord, ofPicture, ofTelegram, ofLookUp, wordsOf, whyOf};
+ghost use Rattle.text_numbers.specs.Wording.{noWords, wordsBeside, ofRecord, ofPicture, ofTelegram, ofLookUp, ofOrder, ofUnit, wordsOf, whyOf};
 use numbers::ALREADY_RUNNING;
 use numbers::ILLEGAL_SIZE;
 use numbers::NO_PASS_LEFT;
@@ -20,15 +20,19 @@ use numbers::ROOM_TOO_SHORT;
 use numbers::TEL_ID_PASSED_OVER;
 use numbers::TELEGRAM_MALFORMED;
 use numbers::WRONG_PASS;
+use sizes::MAX_PAIRS;
 use sizes::MAX_PAYLOAD;
 use sizes::MAX_SIZE;
+use sizes::MIN_ANSWER_ROOM;
 use sizes::MIN_ROOM;
 use sizes::MIN_SIZE;
 use text_arguments::DOES_NOT_FIT;
 use text_arguments::NO_DECIMAL;
 use text_arguments::NO_HEX;
+use text_arguments::NO_PAIR;
 use text_arguments::ODD_HEX;
 use text_arguments::TOO_LONG;
+use text_arguments::TOO_MANY;
 use text_arguments::UNKNOWN_WORD;
 use text_arguments::WORD_MISSING;
 use text_arguments::WORD_TOO_MANY;
@@ -37,12 +41,15 @@ use text_in::MAX_LINE;
 use text_out::Output;
 use text_out::SPACE;
 
-// What was asked, and has its own numbers: a record to take, a fresh picture, a telegram to count, cut or join, a look-up.
+// What was asked, and has its own numbers: a record to take, a fresh picture, a telegram to count, cut or join, a look-up, an
+// order to read, a unit to make.
 pub enum Asked {
     Record,
     Picture,
     Telegram,
     LookUp,
+    Order,
+    Unit,
 }
 
 // A number without a row: words that are no refusal's.
@@ -107,6 +114,27 @@ fn of_look_up(output: Output, text: &mut [u8; SPACE], number: u8) -> Output
     }
 }
 
+// What an order is refused for.
+fn of_order(output: Output, text: &mut [u8; SPACE], number: u8) -> Output
+    ensures { λ r. ⌜ Puts output (now (text .entry)) (lined (wordsBeside ofOrder number)) r (now (text .exit)) ⌝ }
+{
+    match number {
+        ORDER_ROOM_TOO_SHORT => output.form(text, b"room below %d bytes\n", &[MIN_ANSWER_ROOM]),
+        RECORD_MALFORMED => output.line(text, b"order malformed"),
+        _ => no_words(output, text),
+    }
+}
+
+// What a unit is refused for.
+fn of_unit(output: Output, text: &mut [u8; SPACE], number: u8) -> Output
+    ensures { λ r. ⌜ Puts output (now (text .entry)) (lined (wordsBeside ofUnit number)) r (now (text .exit)) ⌝ }
+{
+    match number {
+        RECORD_MALFORMED => output.form(text, b"more than %d pairs\n", &[MAX_PAIRS]),
+        _ => no_words(output, text),
+    }
+}
+
 // What a number given back means, by what was asked.
 pub fn meaning(output: Output, text: &mut [u8; SPACE], asked: Asked, number: u8) -> Output
     ensures { λ r. ⌜ Puts output (now (text .entry)) (lined (wordsOf asked number)) r (now (text .exit)) ⌝ }
@@ -116,6 +144,8 @@ pub fn meaning(output: Output, text: &mut [u8; SPACE], asked: Asked, number: u8)
         Asked::Picture => of_picture(output, text, number),
         Asked::Telegram => of_telegram(output, text, number),
         Asked::LookUp => of_look_up(output, text, number),
+        Asked::Order => of_order(output, text, number),
+        Asked::Unit => of_unit(output, text, number),
     }
 }
 
@@ -133,6 +163,8 @@ pub fn why(output: Output, text: &mut [u8; SPACE], reason: u8) -> Output
         WRONG_HEX => output.line(text, b"wrong number of hex digits"),
         WORD_TOO_MANY => output.line(text, b"a word too many"),
         TOO_LONG => output.form(text, b"line of more than %d bytes\n", &[MAX_LINE]),
+        NO_PAIR => output.line(text, b"not a pair"),
+        TOO_MANY => output.line(text, b"too many"),
         _ => no_words(output, text),
     }
 }

@@ -13,5 +13,6 @@ why-spec =
     (tie.spec
     (search needs) (search needs) (search needs) (search needs) (search needs) (search needs) (search needs) (search needs) (search needs) (search needs)
     (search needs) (search needs) (search needs) (search needs) (search needs) (search needs) (search needs) (search needs) (search needs) (search needs)
+    (search needs) (search needs) (search needs) (search needs)
     (λ c. search told) (λ c. search told) (λ c. search told) (λ c. search told) (λ c. search told) (λ c. search told) (λ c. search told)
-    (λ c. search told) (λ c. search told) (λ c. search told))
+    (λ c. search told) (λ c. search told) (λ c. search told) (λ c. search told) (λ c. search told))

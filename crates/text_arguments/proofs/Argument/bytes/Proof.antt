@@ -5,7 +5,8 @@ use lib.ListN.{length}
 use Rattle.laws.specs.Buffers.{owes-length}
 use Rattle.text_arguments.specs.Reading.{bytesAt}
 use Rattle.text_arguments.proofs.Taking.{behind-wrong}
-use Rattle.text_arguments.proofs.Groups.{Left, left-start, left-on, left-done, left-refused, group-some, stored-none}
+use Rattle.text_arguments.proofs.Groups.{Left, left-start, left-on, left-done, left-refused, stored-none}
+use Rattle.text_arguments.proofs.Words.{word-some}
 use borrow.Author.Needs.{needs}
 use native.Mathlib.Omega.{arith}
 use Rattle.text_arguments.proofs.Argument.bytes.Statement.{statement}
@@ -45,7 +46,7 @@ loop-less c =
     let at-word-end = at-reason .before .before in
     let at-loop-test = at-word-end .before in
     let at-loop = at-loop-test .before in
-    omega (arith, group-some (at-loop .before .before .before .before .before .before .args .line .now) (at-loop .loop .inv) (at-loop-test .loop-test .taken) (at-word-end .word-end .ensures .0), c .word-start2 .ensures .1)
+    omega (arith, word-some (at-loop .before .before .before .before .before .before .args .line .now) (at-loop .loop .inv .clear) (at-loop-test .loop-test .taken) (at-word-end .word-end .ensures .0), c .word-start2 .ensures .1)
 
 loop-again : tie.Need-loop-again Inv-loop μ-loop
 loop-again c =

@@ -1,8 +1,8 @@
 #!/usr/bin/env bash
 # A ring of real programs: one master, ./ringbox, and three units, ./unit, talk through pipes. Two of the units claim one number. They talk
-# until the ring is OK; then a unit looks another one up, and a cable is re-plugged. All that passes between the programs is `<` lines, from
-# the master to every unit, and `>` lines, from a unit to the master. A comment behind each line, which comes back, says that its answer is
-# whole.
+# until the ring is OK; then a unit looks another one up and is told the answer, and a cable is re-plugged. Orders and records pass between
+# the programs as they are written: `<` lines from the master to every unit, `>` lines from a unit to the master. A comment behind each
+# line, which comes back, says that its answer is whole. Ends with status 1 where anything is refused or the ring does not come to OK.
 set -euo pipefail
 cd "$(dirname "$0")/.."
 readonly PATIENCE=60 # seconds for an answer
@@ -11,6 +11,11 @@ readonly PATIENCE=60 # seconds for an answer
 ./unit --help >/dev/null
 work=$(mktemp -d)
 trap 'kill $(jobs -p) 2>/dev/null || :; rm -rf "$work"' EXIT
+
+fail() {
+    echo "ring.sh: $*" >&2
+    exit 1
+}
 
 declare -A in out
 # Starts a program under a name.
@@ -29,10 +34,10 @@ say() {
     answer=()
     while IFS= read -r -t "$PATIENCE" -u "${out[$1]}" line; do
         if [ "$line" = '# whole' ]; then return; fi
+        if [[ $line == '!'* || $line == '# not understood'* ]]; then fail "$1 says to $2: $line"; fi
         answer+=("$line")
     done
-    echo "ring.sh: $1 does not answer: $2" >&2
-    exit 1
+    fail "$1 does not answer: $2"
 }
 
 # Shows a question to a program and its answer.
@@ -66,6 +71,12 @@ talk() {
     done
 }
 
+# The ring is OK, and no question is open.
+settled() {
+    say ringbox state
+    [[ ${answer[1]} == '= OK '*' open 0 '* ]] || fail "the ring is not in order: ${answer[1]}"
+}
+
 start ringbox ringbox
 for unit in unit1 unit2 unit3; do start $unit unit; done
 show unit1 'unit 1 0101 22.01 31.01'
@@ -73,17 +84,17 @@ show unit2 'unit 2 0102 22.01'
 show unit3 'unit 3 0103 40.01'
 
 talk '> 4D45 01 00000000 04' START
-say ringbox state
-[[ ${answer[1]} == '= OK '*' open 0 '* ]] || { echo "ring.sh: the ring is not OK: ${answer[1]}" >&2; exit 1; }
+settled
 show ringbox listing
 show unit2 list
 
 # Unit 1 looks the renumbered one up; the master's answer is told to it.
 show ringbox 'lookup 22 02'
-[[ ${answer[1]} =~ ^'= at '[0-9]+' '([0-9A-F]{4})$ ]]
+[[ ${answer[1]} =~ ^'= at '[0-9]+' '([0-9A-F]{4}) ]] || fail "22.02 is not found: ${answer[1]}"
 show unit1 "found 22 02 ${BASH_REMATCH[1]}"
 show unit1 known
 
 talk '> 4D45 02 00000000 04' RE-PLUG
+settled
 show ringbox state
 show unit1 known

@@ -229,17 +229,18 @@ struct lathepetal_flat_listing lathepetal_listing(struct lathepetal_picture pict
 /* Where a pair is listed; or 18, or 17. */
 struct lathepetal_look_up_outcome lathepetal_look_up(struct lathepetal_picture picture, uint8_t block, uint8_t number);
 
-/* A unit with the pairs that stand in `pairs`, two bytes each, block and number; or 2, and one with none. Position, address and pairs may be
- * any; a master takes the ANSWER of a unit without blocks 00, 01 and FF for one. */
+/* A unit with the pairs that stand in `pairs`, two bytes each, block and number; or 2, and one with none. Position, address and pairs may
+ * be any; a master reads the ANSWER of a unit that has block 00, 01 or FF as malformed. */
 struct lathepetal_unit_outcome lathepetal_unit(uint8_t position, uint16_t address, const uint8_t *pairs, size_t length);
 
 /* Reads one order as lathepetal_record writes them, and writes the ANSWER that it asks for to the start of `out`; or 1 or 2. NOTOK and any
  * order of another pass than the last one empty the kept answers; INVALID drops those that it names. An ASK for the unit's position is
- * answered, and so is a SET for its position and address, which renumbers the first such pair if no other pair has the new number. */
+ * answered, and so is a SET for its position and address, which renumbers the unit's first pair of that block with the old number, if no
+ * other pair of that block has the new. */
 struct lathepetal_unit_read_outcome lathepetal_unit_read(struct lathepetal_slave unit, const uint8_t *order, size_t length, uint8_t *out,
                                                          size_t room);
 
-/* The unit after a look-up of this pair gave this answer: kept as the newest one, or, where it is a refusal, not at all. */
+/* The unit after a look-up of this pair gave this answer, which is kept as the newest one; a refusal hands back the very unit. */
 struct lathepetal_slave lathepetal_unit_learn(struct lathepetal_slave unit, uint8_t block, uint8_t number,
                                               struct lathepetal_look_up_outcome answer);
 

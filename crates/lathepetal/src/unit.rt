@@ -35,7 +35,7 @@ pub extern "C" fn lathepetal_unit_read(
     unit.read(order, out)
 }
 
-// What a look-up of the pair gave is kept, where it is no refusal.
+// What a look-up of the pair gave is kept; a refusal hands back the very unit.
 #[no_mangle]
 pub extern "C" fn lathepetal_unit_learn(
     unit: NetworkSlave,
@@ -43,7 +43,8 @@ pub extern "C" fn lathepetal_unit_learn(
     number: u8,
     answer: LookupOutcome,
 ) -> NetworkSlave
-    ensures { λ r. ⌜ (slaveOf r ≡ learn (pairOf block number) (answerOf answer) (slaveOf unit)) × (Counted unit → Counted r) ⌝ }
+    ensures { λ r. ⌜ (slaveOf r ≡ learn (pairOf block number) (answerOf answer) (slaveOf unit)) × (Counted unit → Counted r)
+        × ((answer .number ≡ 0 → ⊥) → r ≡ unit) ⌝ }
 {
     let refused = answer.number;
     if refused != DONE {

@@ -1,31 +1,29 @@
 -- The claim of ticket 7: while the master is OK, what the unit keeps is listed.
-use Prim.Native.Nat.{ℕ, zero, suc, _-_, _<_, _≤_}
+use Prim.Native.Nat.{ℕ, zero, suc, _-_, _≤_}
 use mathlib.Core.Path.{_≡_, refl, sym, _∙_, ap, subst}
 use mathlib.Core.Bool.{Bool, true, false, cond, not, _&&_, _||_}
-use mathlib.Core.List.{List, [], _∷_, _++_, map}
+use mathlib.Core.List.{List, [], _∷_, _++_}
 use mathlib.Core.Logic.{_⊎_, inl, inr}
 use native.Mathlib.Omega.{arith}
 use borrow.Author.Tests.{eq-eqb}
 use lib.Dec.{eqb}
-use lib.ListN.{length, replicate}
+use lib.ListN.{replicate}
 use Rattle.laws.specs.Lists.{any}
-use Rattle.laws.specs.Bools.{clash, and-true, and-none, or-true-left, or-true-right, cond-true, cond-same}
-use Rattle.laws.specs.Alls.{All, all-nil, all-cons, all-append, all-map, all-both, all-of, all-select, all-drop, Each, each-map, any-left, any-right}
-use Rattle.rules.specs.House.{maxPass}
-use Rattle.rules.specs.Picture.{State, Off, NotOk, Ok, isNotOk, isOk, Pair, samePair, Row, Picture, withRows, withState, withDelay, isOpen, isOpenStatus, newRow, Seat, seatAt, put, fresh}
+use Rattle.laws.specs.Bools.{clash, and-true, or-true-left, or-true-right, cond-true, cond-same}
+use Rattle.laws.specs.Alls.{All, all-nil, all-map, all-both, all-of, Each, each-map, any-left, any-right}
+use Rattle.rules.specs.Picture.{State, Off, NotOk, Ok, isNotOk, isOk, Pair, samePair, Row, Picture, withRows, withState, withDelay, isOpen, isOpenStatus, newRow, seatAt, put, fresh}
 use Rattle.rules.specs.Event.{Event}
 use Rattle.rules.specs.Order.{Order, NOTOK, INVALID}
 use Rattle.rules.specs.Listing.{Entry, Lookup, found, notFound, listing, listedPairs, firstOf, lookUp, lookupAddress}
-use Rattle.rules.specs.Step.{Packing, rowsSeparately, acrossRows, Change, asks, scanned, scan, begin, rescanned, rescan, shutDown, changeRows, asked, delayEnds, ignored, counted, listedRow, keepAnswer}
-use Rattle.rules.specs.Ending.{becomesOk, settled, okOrder, lost, tell, tellRows, toldBy, told, ended, endOrders, ordersOf, pictureOf}
+use Rattle.rules.specs.Step.{Packing, rowsSeparately, Change, asks, scanned, scan, begin, rescanned, rescan, shutDown, changeRows, asked, delayEnds, listedRow, keepAnswer}
+use Rattle.rules.specs.Ending.{becomesOk, settled, okOrder, lost, tellRows, toldBy, told, ended, endOrders, ordersOf, pictureOf}
 use Rattle.rules.specs.Run.{Outcome, Record, offered, left, written, next}
 use Rattle.rules.proofs.Ways.{Ways, every-taken, Seated, Offered, was-refused, was-taken, offered-cases}
 use Rattle.rules.proofs.Sound.{Sound, sound-ways, each-put, each-counted}
 use Rattle.rules.proofs.Decode.{formed}
-use Rattle.rules.proofs.Pairs.{same-self}
 use Rattle.rules.proofs.Runs.{running-fresh}
 use Rattle.rules_unit.specs.Reading.{ordersFrom, ordersIn}
-use Rattle.rules_unit.specs.Slave.{Known, Slave, make, withKnown, besides, newest, remember, learn, turned, lived}
+use Rattle.rules_unit.specs.Slave.{Known, Slave, make, withKnown, learn, turned, lived}
 use Rattle.rules_unit.specs.Bench.{Bench, Act, offers, readings, act, acted, freshBench}
 use Rattle.rules_unit.specs.Bench as benches
 use Rattle.rules_unit.specs.Claims.{matches, IsListed, Coherent}

@@ -1,21 +1,19 @@
 -- What a unit keeps after all orders of an event: no answer that one of them names, and none at all where the first empties it.
 use Prim.Native.Nat.{ℕ, _<_, _≤_}
 use mathlib.Core.Path.{_≡_, refl, sym, _∙_, ap, subst}
-use mathlib.Core.Bool.{Bool, true, false, cond, not, _||_}
+use mathlib.Core.Bool.{Bool, true, false, not}
 use mathlib.Core.List.{List, [], _∷_, map}
 use mathlib.Core.Option.{Option}
 use native.Mathlib.Omega.{arith}
 use borrow.Author.Tests.{ne-eqb}
-use lib.Dec.{eqb}
 use Rattle.laws.specs.Lists.{any, select}
-use Rattle.laws.specs.Bools.{clash, not-true, or-false, or-true-right, on-cond, cond-true}
-use Rattle.laws.specs.Alls.{All, all-nil, all-map, all-both, all-of, all-select, all-selected}
+use Rattle.laws.specs.Bools.{clash, not-true, or-false, or-true-right, cond-true}
+use Rattle.laws.specs.Alls.{All, all-nil, all-map, all-both, all-of, all-selected}
 use Rattle.rules.specs.House.{minAnswerRoom, maxPass}
 use Rattle.rules.specs.Picture.{Pair, holds}
 use Rattle.rules.specs.Order.{Order, ASK, SET, OK, NOTOK, NEW, INVALID, WAIT-SHORT, WAIT-LONG, encode, encodeAll}
 use Rattle.rules.specs.Run.{Sent, sentWith}
-use Rattle.rules_unit.specs.Reading.{decodeOrder}
-use Rattle.rules_unit.specs.Slave.{Known, Slave, besides, saysNotOk, empties, named, knownAfter, heard, onOrder, read, Turn, reads, turned, lived}
+use Rattle.rules_unit.specs.Slave.{Known, Slave, besides, saysNotOk, empties, named, knownAfter, heard, onOrder, read, reads, turned, lived}
 use Rattle.rules_unit.specs.Bench.{readings}
 use Rattle.rules_unit.proofs.Memory.{known-all}
 use Rattle.rules_unit.proofs.Orders.{narrowed, decode-order, takesApart}

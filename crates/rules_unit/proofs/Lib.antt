@@ -5,5 +5,6 @@ pub mod Hearing
 pub mod Telling
 pub mod Coherence
 pub mod Units
+pub mod Forgetting
 pub mod Edges
 pub mod Promises

@@ -1,17 +1,16 @@
 -- The answers that a unit keeps: what holds of all of them, how many they are, and each pair once.
 use Prim.Native.Nat.{ℕ, _-_, _≤_}
-use mathlib.Core.Path.{_≡_, sym, subst}
-use mathlib.Core.Bool.{Bool, true, false, cond, not, _||_}
-use mathlib.Core.List.{List, [], _∷_, _++_}
+use mathlib.Core.Path.{_≡_}
+use mathlib.Core.Bool.{Bool, false, not}
+use mathlib.Core.List.{List, [], _∷_}
 use native.Mathlib.Omega.{arith}
 use lib.ListN.{length, length-append, drop, length-drop}
-use Rattle.laws.specs.Lists.{any, select}
+use Rattle.laws.specs.Lists.{any}
 use Rattle.laws.specs.Bools.{not-true, or-left, on-cond}
 use Rattle.laws.specs.Alls.{All, all-nil, all-cons, all-append, all-map, all-drop, all-select, all-selected, Pairwise, pairwise-nil, pairwise-cons, pairwise-append, pairwise-drop, pairwise-select, select-length}
 use Rattle.rules.specs.House.{maxAnswers}
 use Rattle.rules.specs.Picture.{Pair, samePair, holds}
 use Rattle.rules.specs.Run.{Sent}
-use Rattle.rules.proofs.Pairs.{differ-turn}
 use Rattle.rules_unit.specs.Slave.{Known, besides, newest, remember, empties, named, knownAfter}
 
 -- the answer's pair is none of these

@@ -8,11 +8,11 @@ use native.Mathlib.Omega.{arith}
 use borrow.Author.Tests.{eqb-true, eq-eqb}
 use lib.Dec.{eqb}
 use lib.ListN.{length}
-use Rattle.laws.specs.Lists.{any, select, collect}
+use Rattle.laws.specs.Lists.{any, select}
 use Rattle.laws.specs.Bools.{clash, decide, and-left, and-right, and-true, and-none, not-false, or-cases, or-true-left, or-true-right, on-cond}
 use Rattle.laws.specs.Alls.{Each, each-nil, each-cons, any-append, any-left, any-right, any-mapped, any-collect}
 use Rattle.rules.specs.Picture.{Pair, samePair, holds, Row, Kept, nothing, kept, keptIn, keptBy, pairsOf, pairsIn, hasAddress, hasOtherAddress, keeps, keepsOther, withStatus, WAITING, isSilent, Seat}
-use Rattle.rules.specs.Order.{Order, INVALID}
+use Rattle.rules.specs.Order.{INVALID}
 use Rattle.rules.specs.Listing.{Entry, entry, entriesOf, entriesFrom}
 use Rattle.rules.specs.Step.{silenced, asked, ignored, counted, judgedFor, renumberingFor, listedRow}
 use Rattle.rules.specs.Renumber.{goods}

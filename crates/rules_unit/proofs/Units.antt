@@ -1,5 +1,5 @@
 -- What a unit is when it is made and after any orders and look-ups, and what it writes.
-use Prim.Native.Nat.{ℕ, suc, _+_, _*_, _<_, _≤_}
+use Prim.Native.Nat.{ℕ, _+_, _*_, _<_, _≤_}
 use mathlib.Core.Path.{_≡_, refl, sym, _∙_, ap, subst}
 use mathlib.Core.Bool.{Bool, true, false, cond, not, _&&_, _||_}
 use mathlib.Core.List.{List, [], _∷_, _++_, map}
@@ -9,18 +9,18 @@ use borrow.Author.Tests.{lt-ltb, le-ltb, eqb-true, eq-eqb, ne-eqb}
 use lib.Dec.{eqb, ltb}
 use lib.ListN.{length, length-append, length-map}
 use Rattle.laws.specs.Lists.{any, collect}
-use Rattle.laws.specs.Bools.{clash, and-left, and-right, and-true, or-left, or-right, on-cond, cond-true, cond-false, cond-same}
+use Rattle.laws.specs.Bools.{and-left, and-right, and-true, or-left, or-right, refute, on-cond, cond-true, cond-false, cond-same}
 use Rattle.laws.specs.Alls.{All, all-mapped, all-unmapped}
 use Rattle.rules.specs.House.{maxPairs, minAnswerRoom}
 use Rattle.rules.specs.Picture.{Pair, samePair, holds}
 use Rattle.rules.specs.Event.{ANSWER, two, four, readPairs, pairBytes, decode, header, encodeEvent}
 use Rattle.rules.specs.Order.{Order, ASK, SET, OK, NOTOK, NEW, INVALID, WAIT-SHORT, WAIT-LONG}
 use Rattle.rules.specs.Run.{Sent, sentWith}
-use Rattle.rules.specs.Listing.{Lookup, found, notFound}
+use Rattle.rules.specs.Listing.{found, notFound}
 use Rattle.rules.proofs.Pairs.{same-self, same-eq}
 use Rattle.rules.proofs.Encode.{read-back, pairs-length, decode-encode}
 use Rattle.rules_unit.specs.Reading.{decodeOrder}
-use Rattle.rules_unit.specs.Slave.{Known, Slave, notMade, make, makeNumber, withKnown, remember, learn, knownAfter, without, rename, pair, renumbered, isAnswered, obeyed, heard, answerOf, Reading, refuseOrder, onOrder, read, Turn, reads, learns, turned, lived}
+use Rattle.rules_unit.specs.Slave.{Slave, notMade, make, makeNumber, withKnown, learn, without, rename, pair, renumbered, isAnswered, obeyed, heard, answerOf, Reading, refuseOrder, onOrder, read, Turn, reads, learns, turned, lived}
 use Rattle.rules_unit.specs.Claims.{Makes, Lives, Checks, Answers, Commands, Obeys}
 use Rattle.rules_unit.proofs.Memory.{Tidy, tidy-nothing, tidy-known, tidy-remember}
 
@@ -164,30 +164,69 @@ answer-length : (c : ℕ) (u : Slave) → length (answerOf c u) ≡ 11 + 2 * len
 unfolding answerOf encodeEvent header four two
 answer-length c u = let e = pairs-length (u .pairs) in omega arith
 
--- a unit whose blocks may be announced, of which every order is written so that the master reads it
+-- a list with the unit's blocks, where these may be announced, is read by the master as it is written
 Announced : ℕ → Type 0
 Announced b = (0x02 ≤ b) × (b ≤ 0xFE)
 
-answer-decodes : (u : Slave) (s : Sent) → length (u .pairs) ≤ 24 → All (λ (a : Pair). (0x02 ≤ a .block) × (a .block ≤ 0xFE)) (u .pairs) → u .address < 65_536
-    → s .pass ≤ 4_294_967_295 → decode (answerOf (s .pass) (heard u s)) ≡ some (ANSWER (s .pass) (u .position) (u .address) (heard u s .pairs))
-unfolding answerOf heard blocks Announced
-answer-decodes u s l g n c = decode-encode (ANSWER (s .pass) (u .position) (u .address) (heard u s .pairs)) (c, n, omega (arith, l, heard-length u s), good)
+announced : (u : Slave) (ps : List Pair) (c : ℕ) → blocks ps ≡ blocks (u .pairs) → length (u .pairs) ≤ 24
+    → All (λ (a : Pair). (0x02 ≤ a .block) × (a .block ≤ 0xFE)) (u .pairs) → u .address < 65_536 → c ≤ 4_294_967_295
+    → decode (encodeEvent (ANSWER c (u .position) (u .address) ps)) ≡ some (ANSWER c (u .position) (u .address) ps)
+unfolding blocks Announced
+announced u ps c e l g n m = decode-encode (ANSWER c (u .position) (u .address) ps) (m, n, omega (arith, l, same), good)
   where
-    good : All (λ (a : Pair). Announced (a .block)) (heard u s .pairs)
+    same : length ps ≡ length (u .pairs)
+    same = sym (length-map ps (λ (a : Pair). a .block)) ∙ ap length e ∙ length-map (u .pairs) (λ (a : Pair). a .block)
+
+    good : All (λ (a : Pair). Announced (a .block)) ps
     good =
-        all-unmapped {Q = Announced} (λ (a : Pair). a .block) (heard u s .pairs)
-        (subst (All Announced) (sym (heard-blocks u s)) (all-mapped {Q = Announced} (λ (a : Pair). a .block) g))
+        all-unmapped {Q = Announced} (λ (a : Pair). a .block) ps
+        (subst (All Announced) (sym e) (all-mapped {Q = Announced} (λ (a : Pair). a .block) g))
+
+-- an order that neither asks nor renumbers the unit is not answered
+not-answered : (u : Slave) (s : Sent) → ((c : ℕ) → s ≡ sentWith c (ASK (u .position)) → ⊥)
+    → ((c b o n : ℕ) → s ≡ sentWith c (SET (u .position) (u .address) b o n) → ⊥) → isAnswered u (s .order) ≡ false
+unfolding isAnswered sentWith
+not-answered u s f g = go (s .order) refl
+  where
+    with-order : {o : Order} → s .order ≡ o → s ≡ record { pass = s .pass; order = o }
+    with-order e = λ i. record { pass = s .pass; order = e i }
+
+    go : (o : Order) → s .order ≡ o → isAnswered u o ≡ false
+    go (ASK x) e = refute (eqb x (u .position)) (λ t. absurd (f (s .pass) (with-order (e ∙ ap ASK (eqb-true x (u .position) t)))))
+    go (SET x a b o n) e =
+        refute (eqb x (u .position) && eqb a (u .address))
+        (λ t.
+        let p = eqb-true x (u .position) (and-left _ _ t) in
+        let q = eqb-true a (u .address) (and-right (eqb x (u .position)) _ t) in
+        absurd (g (s .pass) b o n (with-order (e ∙ (λ j. SET (p j) (q j) b o n)))))
+    go OK e = refl
+    go NOTOK e = refl
+    go (NEW ps) e = refl
+    go (INVALID ps) e = refl
+    go WAIT-SHORT e = refl
+    go WAIT-LONG e = refl
+
+own : (u : Slave) → (eqb (u .position) (u .position) && eqb (u .address) (u .address)) ≡ true
+own u = and-true (eqb (u .position) (u .position)) (eqb (u .address) (u .address)) (eq-eqb (u .position) (u .position) refl) (eq-eqb (u .address) (u .address) refl)
 
 pub answers : (u : Slave) (b : List ℕ) (room : ℕ) → Answers u b room
-unfolding refuseOrder onOrder
+unfolding refuseOrder onOrder isAnswered sentWith answerOf heard obeyed
 answers u b room =
     record {
+      asked = λ m c e.
+          ap (λ (r : Reading). r .answer) (read-with-room u b room (some (sentWith c (ASK (u .position)))) m e)
+          ∙ cond-true _ [] (eq-eqb (u .position) (u .position) refl)
+          ∙ ap (λ (ps : List Pair). encodeEvent (ANSWER c (u .position) (u .address) ps)) (cond-same (eqb (u .position) (u .position)) (u .pairs));
+      renumbered = λ m k o n e.
+          let r = read-with-room u b room (some (sentWith (e .0) (SET (u .position) (u .address) k o n))) m (e .1) in
+          ap (λ (z : Reading). z .answer) r ∙ cond-true _ [] (own u)
+          ∙ ap (λ (z : Reading). encodeEvent (ANSWER (e .0) (u .position) (u .address) (z .unit .pairs))) (sym r);
+      silent = λ f g. on-any u b room (λ (r : Reading). r .answer ≡ []) refl refl
+          (λ s e. cond-false _ [] (not-answered u s (λ c q. f c (e ∙ ap some q)) (λ c k o n q. g k o n (c, e ∙ ap some q))));
       short = λ l. on-any u b room (λ (r : Reading). length (r .answer) ≤ 59) (omega arith) (omega arith) (short l);
-      silent = λ s e q. on-read u b room (λ (r : Reading). r .answer ≡ []) refl (some s) e (cond-false _ [] q);
-      answers = λ m s e q l g n c.
-          let r = read-with-room u b room (some s) m e in
-          ap (λ (z : Reading). decode (z .answer)) r ∙ ap decode (cond-true (answerOf (s .pass) (heard u s)) [] q) ∙ answer-decodes u s l g n c
-          ∙ ap (λ (z : Reading). some (ANSWER (s .pass) (u .position) (u .address) (z .unit .pairs))) (sym r);
+      decodes = λ l g n c m. on-any u b room
+          (λ (r : Reading). decode (encodeEvent (ANSWER c (u .position) (u .address) (r .unit .pairs))) ≡ some (ANSWER c (u .position) (u .address) (r .unit .pairs)))
+          (announced u (u .pairs) c refl l g n m) (announced u (u .pairs) c refl l g n m) (λ s e. announced u (heard u s .pairs) c (heard-blocks u s) l g n m);
     }
   where
     short : length (u .pairs) ≤ 24 → (s : Sent) → decodeOrder b ≡ some s
@@ -220,8 +259,7 @@ none-renamed a c (b ∷ ps) h =
 -- a SET for the own position and address
 own-set : (u : Slave) (c b o n : ℕ) → heard u (sentWith c (SET (u .position) (u .address) b o n)) .pairs ≡ renumbered b o n (u .pairs)
 unfolding heard sentWith isAnswered obeyed
-own-set u c b o n =
-    cond-true _ _ (and-true (eqb (u .position) (u .position)) (eqb (u .address) (u .address)) (eq-eqb (u .position) (u .position) refl) (eq-eqb (u .address) (u .address) refl))
+own-set u c b o n = cond-true _ _ (own u)
 
 -- any other order
 other-order : (u : Slave) (s : Sent) → ((b o n : ℕ) → s ≡ sentWith (s .pass) (SET (u .position) (u .address) b o n) → ⊥) → heard u s .pairs ≡ u .pairs

@@ -1,21 +1,21 @@
 -- What is claimed of units, of orders read, and of a bench. Numbers are those of the papers.
 use Prim.Native.Nat.{ℕ, _<_, _≤_}
 use mathlib.Core.Path.{_≡_}
-use mathlib.Core.Bool.{Bool, true, false, _&&_}
+use mathlib.Core.Bool.{Bool, true, false, not, _&&_}
 use mathlib.Core.List.{List, [], _∷_, _++_, map}
 use mathlib.Core.Option.{none, some}
 use lib.Dec.{eqb}
-use lib.ListN.{length}
-use Rattle.laws.specs.Lists.{any, collect}
+use lib.ListN.{length, drop}
+use Rattle.laws.specs.Lists.{any, select, collect}
 use Rattle.laws.specs.Alls.{All, Pairwise}
 use Rattle.rules.specs.Picture.{Ok, Pair, samePair, holds, Picture}
-use Rattle.rules.specs.Event.{ANSWER, pairBytes, decode}
+use Rattle.rules.specs.Event.{ANSWER, pairBytes, decode, encodeEvent}
 use Rattle.rules.specs.Order.{Order, ASK, SET, OK, NOTOK, NEW, INVALID, WAIT-SHORT, WAIT-LONG, encode, encodeAll}
 use Rattle.rules.specs.Run.{Sent, sentWith}
-use Rattle.rules.specs.Listing.{Entry, listing}
+use Rattle.rules.specs.Listing.{Entry, listing, found, notFound}
 use Rattle.rules_unit.specs.Reading.{decodeOrder, ordersIn}
-use Rattle.rules_unit.specs.Slave.{Known, Slave, make, makeNumber, pair, isAnswered, read, Turn, lived}
-use Rattle.rules_unit.specs.Bench.{Bench, Act, acted, freshBench}
+use Rattle.rules_unit.specs.Slave.{Known, Slave, make, makeNumber, learn, pair, read, Turn, lived}
+use Rattle.rules_unit.specs.Bench.{Act, acted, freshBench}
 
 -- "every kept entry is in the master's listing with that address"
 unfoldable pub matches : Known → Entry → Bool
@@ -60,20 +60,55 @@ pub record Checks (u : Slave) (order : List ℕ) (room : ℕ) : Type 0 where
   pub malformed : 64 ≤ room → decodeOrder order ≡ none → read u order room ≡ record { number = 2; unit = u; answer = [] }
   pub taken : 64 ≤ room → (s : Sent) → decodeOrder order ≡ some s → (read u order room .number ≡ 0) × (read u order room .unit .pass ≡ s .pass)
 
--- What is written for a unit of up to 24 pairs: at most 59 bytes, so that room 64 does; nothing where the order is not for it; and where
--- it has no blocks 00, 01 and FF, a record that the master takes for the ANSWER of that pass with its list.
-pub record Answers (u : Slave) (order : List ℕ) (room : ℕ) : Type 0 where
-  pub short : length (u .pairs) ≤ 24 → length (read u order room .answer) ≤ 59
-  pub silent : (s : Sent) → decodeOrder order ≡ some s → isAnswered u (s .order) ≡ false → read u order room .answer ≡ []
-  pub answers : 64 ≤ room → (s : Sent) → decodeOrder order ≡ some s → isAnswered u (s .order) ≡ true → length (u .pairs) ≤ 24
-      → All (λ (a : Pair). (0x02 ≤ a .block) × (a .block ≤ 0xFE)) (u .pairs) → u .address < 65_536 → s .pass ≤ 4_294_967_295
-      → decode (read u order room .answer) ≡ some (ANSWER (s .pass) (u .position) (u .address) (read u order room .unit .pairs))
+-- an order that asks this unit, and one that renumbers it
+abbrev pub Asks : Slave → List ℕ → (pass : ℕ) → Type 0
+Asks u order c = decodeOrder order ≡ some (sentWith c (ASK (u .position)))
 
--- What a SET does to the list: "renumbering its first pair of that block with the old number, if it has one and no other pair of that
--- block has the new". So it changes at most one pair, and no other order changes any.
 abbrev pub Commands : Slave → List ℕ → (block old new : ℕ) → Type 0
 Commands u order b o n = (c : ℕ) × (decodeOrder order ≡ some (sentWith c (SET (u .position) (u .address) b o n)))
 
+-- What is written: "It answers an ASK for its own position with its list. It answers a SET for its own position and address .. with its
+-- list either way", of the pass of the order, and nothing else. That is at most 59 bytes for up to 24 pairs, so that room 64 does; and of a
+-- unit without blocks 00, 01 and FF the master decodes it to that ANSWER.
+pub record Answers (u : Slave) (order : List ℕ) (room : ℕ) : Type 0 where
+  pub asked : 64 ≤ room → (c : ℕ) → Asks u order c → read u order room .answer ≡ encodeEvent (ANSWER c (u .position) (u .address) (u .pairs))
+  pub renumbered : 64 ≤ room → (b o n : ℕ) (k : Commands u order b o n)
+      → read u order room .answer ≡ encodeEvent (ANSWER (k .0) (u .position) (u .address) (read u order room .unit .pairs))
+  pub silent : ((c : ℕ) → Asks u order c → ⊥) → ((b o n : ℕ) → Commands u order b o n → ⊥) → read u order room .answer ≡ []
+  pub short : length (u .pairs) ≤ 24 → length (read u order room .answer) ≤ 59
+  pub decodes : length (u .pairs) ≤ 24 → All (λ (a : Pair). (0x02 ≤ a .block) × (a .block ≤ 0xFE)) (u .pairs) → u .address < 65_536
+      → (c : ℕ) → c ≤ 4_294_967_295
+      → decode (encodeEvent (ANSWER c (u .position) (u .address) (read u order room .unit .pairs)))
+      ≡ some (ANSWER c (u .position) (u .address) (read u order room .unit .pairs))
+
+-- What an order leaves of the kept answers: "drops those named by INVALID, and empties itself on NOTOK and on any order whose pass differs
+-- from the last order's"; and no other order drops any.
+pub record Forgets (u : Slave) (order : List ℕ) (room : ℕ) (s : Sent) : Type 0 where
+  pub notOk : s .order ≡ NOTOK → read u order room .unit .known ≡ []
+  pub anotherPass : (s .pass ≡ u .pass → ⊥) → read u order room .unit .known ≡ []
+  pub invalid : s .pass ≡ u .pass → (ps : List Pair) → s .order ≡ INVALID ps
+      → read u order room .unit .known ≡ select (λ (k : Known). not (holds ps (k .pair))) (u .known)
+  pub others : s .pass ≡ u .pass → (s .order ≡ NOTOK → ⊥) → ((ps : List Pair) → s .order ≡ INVALID ps → ⊥)
+      → read u order room .unit .known ≡ u .known
+
+-- the answers for other pairs
+abbrev pub forOthers : Pair → Slave → List Known
+forOthers a u = select (λ (k : Known). not (samePair (k .pair) a)) (u .known)
+
+-- What a look-up leaves, wherever the pair is found: "each pair once, the newest answer .. When full, it forgets the oldest answer"; a refused
+-- one changes nothing.
+
+pub record Learns (u : Slave) (a : Pair) (position address : ℕ) : Type 0 where
+  pub kept : length (forOthers a u) ≤ 63
+      → learn a (found position address) u
+      ≡ record { position = u .position; address = u .address; pairs = u .pairs; pass = u .pass; known = forOthers a u ++ record { pair = a; address = address } ∷ [] }
+  pub oldest : length (forOthers a u) ≡ 64
+      → learn a (found position address) u
+      ≡ record { position = u .position; address = u .address; pairs = u .pairs; pass = u .pass; known = drop 1 (forOthers a u) ++ record { pair = a; address = address } ∷ [] }
+  pub refused : (number : ℕ) → learn a (notFound number) u ≡ u
+
+-- What a SET does to the list: "renumbering its first pair of that block with the old number, if it has one and no other pair of that
+-- block has the new". So it changes at most one pair, and no other order changes any.
 pub record Obeys (u : Slave) (order : List ℕ) (room : ℕ) : Type 0 where
   pub moved : 64 ≤ room → (b o n : ℕ) → Commands u order b o n → (front back : List Pair) → u .pairs ≡ front ++ pair b o ∷ back
       → holds front (pair b o) ≡ false → holds (front ++ back) (pair b n) ≡ false → read u order room .unit .pairs ≡ front ++ pair b n ∷ back

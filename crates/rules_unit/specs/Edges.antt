@@ -77,6 +77,9 @@ unitEdges =
     ∷ ordered 4 0x2201_3101 8 0x4D4F_01_01020304_02 0 (hex 15 0x4D45_04_01020304_02_0102_02_2201_3101) (pair 0x22 0x01 ∷ pair 0x31 0x01 ∷ [])
     ∷ ordered 0 0 8 0x4D4F_01_00000001_02 0 (hex 11 0x4D45_04_00000001_02_0102_00) []
     ∷ ordered 2 0x2201 8 0x4D4F_01_00000001_03 0 [] (pair 0x22 0x01 ∷ [])
+    ∷ ordered 4 0x0001_FF01 8 0x4D4F_01_00000001_02 0 (hex 15 0x4D45_04_00000001_02_0102_02_0001_FF01) (pair 0x00 0x01 ∷ pair 0xFF 0x01 ∷ [])
+    ∷ edge (lastOf 5 0x0105 (hex 2 0x2201) [] (hex 8 0x4D4F_01_00000001_05) minAnswerRoom) (gives 0 (hex 13 0x4D45_04_00000001_05_0105_01_2201) (pair 0x22 0x01 ∷ []))
+    ∷ edge (lastOf 5 0x0105 (hex 2 0x2201) [] (hex 8 0x4D4F_01_00000001_02) minAnswerRoom) (gives 0 [] (pair 0x22 0x01 ∷ []))
     -- a SET renumbers the first such pair; of another position or address it does nothing
     ∷ ordered 6 0x3101_2201_2201 13 0x4D4F_02_00000001_02_0102_22_01_07 0 (hex 17 0x4D45_04_00000001_02_0102_03_3101_2207_2201) (pair 0x31 0x01 ∷ pair 0x22 0x07 ∷ pair 0x22 0x01 ∷ [])
     ∷ ordered 2 0x2201 13 0x4D4F_02_00000001_03_0102_22_01_07 0 [] (pair 0x22 0x01 ∷ [])
@@ -108,6 +111,8 @@ unitEdges =
     ∷ with (map (λ (n : ℕ). tells 0x22 n (256 + n)) (upFrom 1 65)) (map (λ (n : ℕ). known 0x22 n (256 + n)) (upFrom 2 64)) 0
     -- a full one that renews an answer forgets nothing
     ∷ with (map (λ (n : ℕ). tells 0x22 n (256 + n)) (upFrom 1 64) ++ tells 0x22 0x02 0x01FF ∷ []) (known 0x22 0x01 0x0101 ∷ map (λ (n : ℕ). known 0x22 n (256 + n)) (upFrom 3 62) ++ known 0x22 0x02 0x01FF ∷ []) 0
+    -- and one that is renewed is the newest: the 65th makes it forget the next
+    ∷ with (map (λ (n : ℕ). tells 0x22 n (256 + n)) (upFrom 1 64) ++ tells 0x22 0x01 0x01FF ∷ tells 0x21 0x01 0x0100 ∷ []) (map (λ (n : ℕ). known 0x22 n (256 + n)) (upFrom 3 62) ++ known 0x22 0x01 0x01FF ∷ known 0x21 0x01 0x0100 ∷ []) 0
     -- "drops those named by INVALID": all of the order's pairs, by block and number
     ∷ with (two ++ order 12 0x4D4F_06_00000001_02_3101_2201 ∷ []) (known 0x40 0x05 0x0103 ∷ []) 1
     ∷ with (two ++ order 12 0x4D4F_06_00000001_02_2205_4001 ∷ []) (known 0x22 0x01 0x0101 ∷ known 0x40 0x05 0x0103 ∷ []) 1
@@ -123,6 +128,8 @@ unitEdges =
     (two ++ order 8 0x4D4F_01_00000001_02 ∷ order 13 0x4D4F_02_00000001_02_0103_22_01_02 ∷ order 10 0x4D4F_05_00000001_01_4005
     ∷ order 7 0x4D4F_07_00000001 ∷ order 7 0x4D4F_08_00000001 ∷ order 8 0x4D4F_06_00000001_00 ∷ order 7 0x4D4F_03_00000001 ∷ [])
     (known 0x22 0x01 0x0101 ∷ known 0x40 0x05 0x0103 ∷ []) 1
+    -- and neither does a SET that is obeyed
+    ∷ edge (turns 2 0x0102 (hex 4 0x2201_3101) (two ++ order 13 0x4D4F_02_00000001_02_0102_22_01_07 ∷ [])) (unit (holding (pair 0x22 0x07 ∷ pair 0x31 0x01 ∷ []) 1 (known 0x22 0x01 0x0101 ∷ known 0x40 0x05 0x0103 ∷ [])))
     -- a refused order changes nothing, its pass included
     ∷ with (two ++ order 8 0x4D4F_04_00000002_00 ∷ reads (hex 7 0x4D4F_04_00000002) 63 ∷ []) (known 0x22 0x01 0x0101 ∷ known 0x40 0x05 0x0103 ∷ []) 1
     -- a bench: paper 01's session; the unit is the second one, and looks up the first, itself as it was renumbered, and nobody

@@ -1,12 +1,15 @@
 -- Everything that is promised of the rules of the unit, with all its premises: one record, proved in proofs/Promises.antt.
-use Prim.Native.Nat.{ℕ}
+use Prim.Native.Nat.{ℕ, _≤_}
 use mathlib.Core.Path.{_≡_}
 use mathlib.Core.List.{List}
+use mathlib.Core.Option.{some}
 use Rattle.rules.specs.Picture.{Pair}
 use Rattle.rules.specs.Order.{Order}
+use Rattle.rules.specs.Run.{Sent}
+use Rattle.rules_unit.specs.Reading.{decodeOrder}
 use Rattle.rules_unit.specs.Slave.{Slave, Turn}
 use Rattle.rules_unit.specs.Bench.{Act}
-use Rattle.rules_unit.specs.Claims.{Coherent, Makes, Lives, Checks, Answers, Obeys, DecodesOrder, DecodesOrdersOnly, TakesApart}
+use Rattle.rules_unit.specs.Claims.{Coherent, Makes, Lives, Checks, Answers, Obeys, Forgets, Learns, DecodesOrder, DecodesOrdersOnly, TakesApart}
 use Rattle.rules_unit.specs.Table.{obtained, expected}
 use Rattle.rules_unit.specs.Edges.{unitEdges}
 
@@ -21,6 +24,10 @@ pub record Promises : Type 0 where
   pub checks : (u : Slave) (order : List ℕ) (room : ℕ) → Checks u order room
   pub answers : (u : Slave) (order : List ℕ) (room : ℕ) → Answers u order room
   pub obeys : (u : Slave) (order : List ℕ) (room : ℕ) → Obeys u order room
+  -- of every unit, and every order that is read with enough room
+  pub forgets : (u : Slave) (order : List ℕ) (room : ℕ) (s : Sent) → 64 ≤ room → decodeOrder order ≡ some s → Forgets u order room s
+  -- of every unit, every pair and every place where it may be found
+  pub learns : (u : Slave) (a : Pair) (position address : ℕ) → Learns u a position address
   -- of every order, every run of bytes and every run of orders
   pub decodesOrder : (pass : ℕ) (o : Order) → DecodesOrder pass o
   pub decodesOrdersOnly : (b : List ℕ) → DecodesOrdersOnly b

@@ -1,11 +1,10 @@
 -- Tables of units and benches: the words that they are written in.
 use Prim.Native.Nat.{ℕ}
-use mathlib.Core.List.{List, [], _∷_, map}
+use mathlib.Core.List.{List, map}
 use Rattle.laws.specs.Lists
 use Rattle.rules.specs.Picture as Picture
 use Rattle.rules.specs.Listing as Listing
 use Rattle.rules.specs.Evaluate.{openPicture, openRecords, openSteps, openListing}
-use Rattle.rules.specs.Table.{hex}
 use Rattle.rules_unit.specs.Reading
 use Rattle.rules_unit.specs.Slave
 use Rattle.rules_unit.specs.Bench

@@ -12,7 +12,7 @@ use lib.Seq.{sets}
 use Rattle.laws.specs.Bools.{cond-true, cond-false, and-left}
 use Rattle.laws.specs.Buffers.{Wrote, Owes, owes-start, owes-on, owes-end}
 use Rattle.text_words.specs.Text.{blanks, glyphs, allDigits, byteOf}
-use Rattle.text_arguments.specs.Reading.{understood, noPair, tooMany, found, none, behind, wordsFrom, wordsOf, bytesFound}
+use Rattle.text_arguments.specs.Reading.{understood, noPair, tooMany, found, none, wordsFrom, wordsOf, bytesFound}
 use Rattle.text_arguments.specs.declared.Argument.{Argument}
 use Rattle.text_arguments.proofs.Taking.{behind-right}
 use Rattle.text_arguments.proofs.Words.{skip-clear, skip-words, word-is}

@@ -10,44 +10,58 @@ ghost use Rattle.text_records.specs.Fields.{headGap, answerGap, eventGap
 use text_in::MAX_LINE;
 use text_out::Output;
 use text_out::SPACE;
+use wire_events::ADDRESS;
 use wire_events::ANSWER;
+use wire_events::COUNT;
 use wire_orders::ASK;
+use wire_orders::HEAD;
 use wire_orders::INVALID;
+use wire_orders::KIND;
 use wire_orders::NEW;
+use wire_orders::PASS;
 use wire_orders::SET;
+use wire_orders::SET_BLOCK;
+use wire_orders::SET_NEW;
 use wire_orders::WAIT_LONG;
+
+// Where what stands behind the first byte of an order's body begins, and of a SET its block and its new number.
+const BODY: usize = HEAD + 1;
+
+const BLOCK: usize = HEAD + SET_BLOCK;
+
+const NEW_NUMBER: usize = HEAD + SET_NEW;
 
 // The third byte is the kind; 0 where there is none.
 fn kind_of(bytes: &[u8]) -> u8
     ensures { λ r. ⌜ r ≡ getD (now (bytes .entry)) 2 0 ⌝ }
 {
-    if bytes.len() <= 2 {
+    if bytes.len() <= KIND {
         return 0;
     }
-    bytes[2]
+    bytes[KIND]
 }
 
 // A blank stands after mark, kind and pass.
 fn head_gap(n: usize) -> bool
     ensures { λ r. ⌜ r ≡ headGap n ⌝ }
 {
-    if n == 2 {
+    if n == KIND {
         return true;
     }
-    if n == 3 {
+    if n == PASS {
         return true;
     }
-    n == 7
+    n == HEAD
 }
 
 // A blank stands after the address of an ANSWER, its count and each of its pairs.
 fn answer_gap(n: usize) -> bool
     ensures { λ r. ⌜ r ≡ answerGap n ⌝ }
 {
-    if n == 10 {
+    if n == COUNT {
         return true;
     }
-    if n <= 10 {
+    if n <= COUNT {
         return false;
     }
     n % 2 == 1
@@ -60,7 +74,7 @@ fn event_gap(kind: u8, n: usize) -> bool
     if head_gap(n) {
         return true;
     }
-    if n == 8 {
+    if n == ADDRESS {
         return true;
     }
     if kind != ANSWER {
@@ -83,11 +97,11 @@ fn is_known(kind: u8) -> bool
 fn field_gap(kind: u8, n: usize) -> bool
     ensures { λ r. ⌜ r ≡ fieldGap kind n ⌝ }
 {
-    if n < 10 {
+    if n < BLOCK {
         return false;
     }
     if kind == SET {
-        return n <= 12;
+        return n <= NEW_NUMBER;
     }
     if kind == NEW {
         return n % 2 == 0;
@@ -105,7 +119,7 @@ fn order_gap(kind: u8, n: usize) -> bool
     if head_gap(n) {
         return true;
     }
-    if n == 8 {
+    if n == BODY {
         return is_known(kind);
     }
     field_gap(kind, n)

@@ -1,10 +1,10 @@
 -- Every run of calls follows the rules' bench.
 use Prim.Native.Nat.{ℕ, _≤_}
 use mathlib.Core.Path.{_≡_, refl, sym, _∙_, ap, subst}
-use mathlib.Core.List.{List, [], _∷_, _++_, map}
+use mathlib.Core.List.{List, [], _++_, map}
 use native.Mathlib.Omega.{arith}
 use lib.ListN.{length, take, drop}
-use lib.Seq.{sets, take-append-seam}
+use lib.Seq.{take-append-seam}
 use Rattle.laws.specs.Alls.{All}
 use Rattle.laws.specs.Buffers.{sets-start}
 use Rattle.rules.specs.House.{minAnswerRoom}
@@ -30,7 +30,7 @@ use Rattle.unit_slave.specs.declared.NetworkSlave.{NetworkSlave}
 use Rattle.unit_slave.specs.declared.OrderRead.{OrderRead}
 use Rattle.unit_slave.specs.View as units
 use Rattle.unit_slave.specs.View.{slaveOf, Reads}
-use Rattle.unit_bench.specs.Calls.{ReadsAll, no-order, then-order, Plays, no-call, record-call, look-up-call, Follows, Promises}
+use Rattle.unit_bench.specs.Calls.{ReadsAll, no-order, then-order, Plays, no-call, record-call, look-up-call, Promises}
 
 -- with room enough the room does not matter
 read-room : (u : Slave) (b : List ℕ) (room : ℕ) → minAnswerRoom ≤ room → read u b room ≡ read u b minAnswerRoom

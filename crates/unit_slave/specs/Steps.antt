@@ -36,6 +36,7 @@ pub record Unanswered (came : NetworkSlave) (v : Slave) (r : OrderRead) : Type 0
   pub number : r .number ≡ 0
   pub length : r .length ≡ 0
 
+-- a look-up that is refused
 unfoldable pub isRefusal : Lookup → Bool
 isRefusal (found x a) = false
 isRefusal (notFound n) = true

@@ -1,5 +1,6 @@
 // The unit's side: a NetworkSlave that reads orders, keeps look-up answers and answers for itself.
 ghost use mathlib.Core.Path.{_≡_};
+ghost use mathlib.Core.Bool.{true};
 ghost use mathlib.Core.List.{[]};
 ghost use mathlib.Core.Option.{some};
 ghost use Prim.Native.Nat.{_*_, _%_, _≤_};
@@ -286,9 +287,10 @@ impl NetworkSlave {
         }
     }
 
-    // The answer of a look-up for this pair is kept, where it is no refusal.
+    // The answer of a look-up for this pair is kept; a refusal hands back the very unit.
     pub fn learn(mut self, block: u8, number: u8, answer: Lookup) -> NetworkSlave
-        ensures { λ r. ⌜ (slaveOf r ≡ learn (pairOf block number) (lookupOf answer) (slaveOf self)) × (Counted self → Counted r) ⌝ }
+        ensures { λ r. ⌜ (slaveOf r ≡ learn (pairOf block number) (lookupOf answer) (slaveOf self)) × (Counted self → Counted r)
+            × (isRefusal (lookupOf answer) ≡ true → r ≡ self) ⌝ }
     {
         if is_refusal(answer) {
             return self;

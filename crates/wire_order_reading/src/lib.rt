@@ -49,7 +49,7 @@ pub enum Order {
     WaitLong,
 }
 
-// An order, and the pass that it carries.
+// An order, and the pass that it carries; beside bytes that are no order the pass is left open.
 pub struct OrderRecord {
     pub pass: u32,
     pub order: Order,

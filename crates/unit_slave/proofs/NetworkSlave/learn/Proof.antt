@@ -1,4 +1,5 @@
 -- A refusal is passed over, and an answer is kept.
+use Rattle.laws.specs.Bools.{clash}
 use Rattle.ring_lookup.specs.View.{lookupOf}
 use Rattle.rules_unit.specs.Slave.{Known, remember, withKnown}
 use Rattle.unit_answers.specs.View.{knownOf}
@@ -7,7 +8,7 @@ use Rattle.unit_slave.specs.View.{slaveOf}
 use Rattle.wire_pairs.specs.View.{pairOf}
 use Prim.Native.Nat.{ℕ}
 use mathlib.Core.List.{List}
-use mathlib.Core.Path.{_∙_, ap, sym}
+use mathlib.Core.Path.{refl, _∙_, ap, sym}
 use borrow.Author.Needs.{needs}
 use Rattle.unit_slave.proofs.NetworkSlave.learn.Statement.{statement}
 use Rattle.unit_slave.proofs.NetworkSlave.learn.Tie as tie
@@ -16,7 +17,7 @@ returns : tie.Need-returns
 returns c =
     let at-refusal = c .before in
     let a = at-refusal .before .args in
-    (learns-nothing (pairOf (a .block) (a .number)) (lookupOf (a .answer)) (slaveOf (a .self)) (sym (at-refusal .is-refusal .ensures) ∙ c .if1 .taken), λ k. k)
+    (learns-nothing (pairOf (a .block) (a .number)) (lookupOf (a .answer)) (slaveOf (a .self)) (sym (at-refusal .is-refusal .ensures) ∙ c .if1 .taken), λ k. k, λ e. refl)
 
 returns-2 : tie.Need-returns-2
 unfolding slaveOf
@@ -31,6 +32,7 @@ returns-2 c =
       h .unit ∙ ap (λ (x : ℕ). withKnown (kept x) u) (at-address .address .ensures)
           ∙ learns (a .block) (a .number) (lookupOf (a .answer)) u (sym (at-refusal .is-refusal .ensures) ∙ at-if1 .if1 .left),
       h .counts,
+      λ e. clash e (sym (at-refusal .is-refusal .ensures) ∙ at-if1 .if1 .left),
     )
 
 pub learn-spec : {M : Type 1} → statement M

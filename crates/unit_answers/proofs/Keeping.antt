@@ -1,11 +1,10 @@
 -- Answers kept and dropped: one turn at a time, and the newest.
-use Prim.Native.Nat.{ℕ, suc, _+_, _-_, _≤_}
+use Prim.Native.Nat.{ℕ, _+_, _-_, _≤_}
 use mathlib.Core.Path.{_≡_, refl, sym, _∙_, ap}
 use mathlib.Core.Bool.{Bool, true, false, cond, not}
 use mathlib.Core.List.{List, [], _∷_, _++_, append-assoc, append-nil}
 use native.Mathlib.Omega.{arith}
-use lib.ListN.{length, getD, drop, length-drop}
-use lib.Seq.{drop-cons}
+use lib.ListN.{length, drop, length-drop}
 use Rattle.laws.specs.Lists.{select}
 use Rattle.rules.specs.House.{maxAnswers}
 use Rattle.rules.specs.Picture.{Pair, holds}
@@ -14,14 +13,7 @@ use Rattle.rules_unit.specs.Slave.{Known, besides, newest, remember}
 use Rattle.wire_pairs.specs.View.{pairOf}
 use Rattle.unit_answers.specs.View.{knownOf}
 
--- the pair that stands at a place, and those behind it; fewer than two bytes are none
-pub read-here : (b : List ℕ) (at : ℕ) → at + 2 ≤ length b → readPairs (drop at b) ≡ pairOf (getD b at 0) (getD b (at + 1) 0) ∷ readPairs (drop (at + 2) b)
-unfolding readPairs pairOf
-read-here b at h =
-    let e : at + 1 ≡ suc at = omega arith in
-    let f : at + 2 ≡ suc (suc at) = omega arith in
-    rw (e, f) (ap readPairs (drop-cons b at 0 (omega arith) ∙ ap (λ (l : List ℕ). getD b at 0 ∷ l) (drop-cons b (suc at) 0 (omega arith))))
-
+-- fewer than two bytes are no pair
 few : (b : List ℕ) → length b ≤ 1 → readPairs b ≡ []
 unfolding readPairs
 few [] h = refl

@@ -3,7 +3,7 @@ ghost use mathlib.Core.Path.{_≡_};
 ghost use mathlib.Core.Bool.{true};
 ghost use mathlib.Core.List.{[]};
 ghost use mathlib.Core.Option.{some};
-ghost use Prim.Native.Nat.{_*_, _%_, _≤_};
+ghost use Prim.Native.Nat.{_≤_};
 ghost use lib.ListN.{length, drop};
 ghost use Rattle.laws.specs.Buffers.{Wrote};
 ghost use Rattle.rules.specs.House.{maxPairs, minAnswerRoom};
@@ -53,24 +53,6 @@ pub struct OrderRead {
     pub number: u8,
     pub length: usize,
     pub unit: NetworkSlave,
-}
-
-// The pairs that stand in these bytes, two bytes for each.
-fn read_pairs(bytes: &[u8]) -> Pairs
-    requires { ⌜ (length (now bytes) % 2 ≡ 0) × (length (now bytes) ≤ 2 * maxPairs) ⌝ }
-    ensures { λ r. ⌜ (pairsOf r ≡ readPairs (now (bytes .entry))) × (r .count ≤ maxPairs) ⌝ }
-{
-    let count = bytes.len() / PAIR;
-    let mut pairs = Pairs::none();
-    let mut i = 0;
-    while i < count {
-        let at = PAIR * i;
-        pairs.blocks[i] = bytes[at];
-        pairs.numbers[i] = bytes[at + 1];
-        i += 1;
-    }
-    pairs.count = count;
-    pairs
 }
 
 // A look-up that was refused.
@@ -124,7 +106,11 @@ impl NetworkSlave {
         }
         UnitMade {
             number: DONE,
-            unit: NetworkSlave::unread(position, address, read_pairs(pairs)),
+            unit: NetworkSlave::unread(
+                position,
+                address,
+                wire_events::read_pairs(pairs, 0, n / PAIR),
+            ),
         }
     }
 

@@ -23,6 +23,10 @@ read-here b at h =
     let f : at + 2 ≡ suc (suc at) = omega arith in
     rw (e, f) (ap readPairs (drop-cons b at 0 (omega arith) ∙ ap (λ (l : List ℕ). getD b at 0 ∷ l) (drop-cons b (suc at) 0 (omega arith))))
 
+-- none is read yet
+pub from-start : (b : List ℕ) (at : ℕ) → readPairs (drop (at + 2 * 0) b) ≡ readPairs (drop at b)
+from-start b at = let e : at + 2 * 0 ≡ at = omega arith in ap (λ (k : ℕ). readPairs (drop k b)) e
+
 -- one turn: the pairs read so far, and those that still stand there
 pub read-on : (found next : List Pair) (b : List ℕ) (at to : ℕ) {whole : List Pair} → at + 2 ≤ length b → to ≡ at + 2
     → next ≡ found ++ pairOf (getD b at 0) (getD b (at + 1) 0) ∷ [] → found ++ readPairs (drop at b) ≡ whole → next ++ readPairs (drop to b) ≡ whole

@@ -170,15 +170,15 @@ fn decode_plain(kind: u8, pass: u32, x: u8) -> EventRecord
     plain(Event::Malformed)
 }
 
-// The pairs of an ANSWER.
-fn read_pairs(bytes: &[u8], count: usize) -> Pairs
-    requires { ⌜ (count ≤ maxPairs) × (length (now bytes) ≡ 11 + 2 * count) ⌝ }
-    ensures { λ r. ⌜ pairsOf r ≡ readPairs (drop 11 (now (bytes .entry))) ⌝ }
+// The pairs that stand in the bytes from a place on to their end, so many.
+pub fn read_pairs(bytes: &[u8], from: usize, count: usize) -> Pairs
+    requires { ⌜ (count ≤ maxPairs) × (length (now bytes) ≡ from + 2 * count) ⌝ }
+    ensures { λ r. ⌜ (pairsOf r ≡ readPairs (drop from (now (bytes .entry)))) × (r .count ≡ count) ⌝ }
 {
     let mut pairs = Pairs::none();
     let mut i = 0;
     while i < count {
-        let at = ANSWER_HEAD + PAIR * i;
+        let at = from + PAIR * i;
         pairs.blocks[i] = bytes[at];
         pairs.numbers[i] = bytes[at + 1];
         i += 1;
@@ -230,7 +230,7 @@ fn decode_answer(bytes: &[u8]) -> EventRecord
     if n != ANSWER_HEAD + PAIR * count {
         return plain(Event::Malformed);
     }
-    let pairs = read_pairs(bytes, count);
+    let pairs = read_pairs(bytes, ANSWER_HEAD, count);
     if has_bad_block(pairs) {
         return plain(Event::Malformed);
     }

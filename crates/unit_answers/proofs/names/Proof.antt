@@ -1,7 +1,8 @@
 -- A search, two bytes at a time: what is left to look at decides.
 use Prim.Native.Nat.{_+_, _*_, _-_, _≤_}
 use Rattle.laws.specs.Views.{any-empty, any-here, any-skip}
-use Rattle.unit_answers.proofs.Keeping.{read-here, read-past}
+use Rattle.unit_answers.proofs.Keeping.{read-past}
+use Rattle.wire_events.proofs.Readings.{read-here}
 use Rattle.wire_pairs.specs.View.{pairOf}
 use Rattle.rules.specs.Event.{readPairs}
 use Rattle.rules.specs.Picture.{holds, samePair}

@@ -41,7 +41,7 @@ returns-4 c =
     let at-if3 = at-read-pairs .before in
     let at-if2 = at-if3 .before in
     let start = at-if2 .before .before .before .before in
-    simp (c .plain4 .ensures .0) (bad-block (start .args .bytes .now) (at-if2 .if2 .left) (at-if3 .if3 .left) (ap (any badBlock) (sym (at-read-pairs .read-pairs .ensures)) ∙ sym (at-has-bad-block .has-bad-block .ensures) ∙ at-if4 .if4 .taken))
+    simp (c .plain4 .ensures .0) (bad-block (start .args .bytes .now) (at-if2 .if2 .left) (at-if3 .if3 .left) (ap (any badBlock) (sym (at-read-pairs .read-pairs .ensures .0)) ∙ sym (at-has-bad-block .has-bad-block .ensures) ∙ at-if4 .if4 .taken))
 
 returns-5 : tie.Need-returns-5
 unfolding be2
@@ -53,7 +53,7 @@ returns-5 c =
     let at-if3 = at-read-pairs .before in
     let at-if2 = at-if3 .before in
     let start = at-if2 .before .before .before .before in
-    (λ t. some (ANSWER (at-read4 .read4 .ensures t) (getD (start .args .bytes .now) 7 0) (c .word .ensures .0 t) (at-read-pairs .read-pairs .ensures t))) ∙ well-formed (start .args .bytes .now) (at-if2 .if2 .left) (at-if3 .if3 .left) (ap (any badBlock) (sym (at-read-pairs .read-pairs .ensures)) ∙ sym (at-has-bad-block .has-bad-block .ensures) ∙ at-if4 .if4 .left)
+    (λ t. some (ANSWER (at-read4 .read4 .ensures t) (getD (start .args .bytes .now) 7 0) (c .word .ensures .0 t) (at-read-pairs .read-pairs .ensures .0 t))) ∙ well-formed (start .args .bytes .now) (at-if2 .if2 .left) (at-if3 .if3 .left) (ap (any badBlock) (sym (at-read-pairs .read-pairs .ensures .0)) ∙ sym (at-has-bad-block .has-bad-block .ensures) ∙ at-if4 .if4 .left)
 
 pub decode-answer-spec : {M : Type 1} → statement M
 decode-answer-spec =

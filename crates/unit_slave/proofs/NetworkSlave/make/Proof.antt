@@ -2,6 +2,7 @@
 use Rattle.unit_slave.proofs.Making.{made-number, made-unit, not-whole, too-many, whole}
 use Rattle.unit_slave.specs.Steps.{unread}
 use mathlib.Core.Path.{_∙_, ap}
+use native.Mathlib.Omega.{arith}
 use borrow.Author.Needs.{needs}
 use Rattle.unit_slave.proofs.NetworkSlave.make.Statement.{statement}
 use Rattle.unit_slave.proofs.NetworkSlave.make.Tie as tie
@@ -33,7 +34,7 @@ returns-3 c =
     let b = a .pairs .now in
     let e = whole b (at-if1 .if1 .left) (at-if2 .if2 .left) in
     let h = c .unread .ensures in
-    (made-number b e, h .0 ∙ ap (unread (a .position .0) (a .address .0)) (at-read .read-pairs .ensures .0) ∙ made-unit b (a .position .0) (a .address .0) e, h .1 (at-read .read-pairs .ensures .1))
+    (made-number b e, h .0 ∙ ap (unread (a .position .0) (a .address .0)) (at-read .read-pairs .ensures .0) ∙ made-unit b (a .position .0) (a .address .0) e, h .1 (omega (arith, at-read .read-pairs .ensures .1, at-if2 .if2 .left)))
 
 pub make-spec : {M : Type 1} → statement M
 make-spec =

@@ -1,4 +1,6 @@
 // What has changed at one position, from the row before to the row after.
+#![tactic(auto)]
+
 ghost use Rattle.std.specs.Prelude.{◌≡◌, ◌≤◌, length};
 ghost use Rattle.rules.specs.House.{max_lines_each};
 ghost use Rattle.rules_diff.specs.Differences.{lines_at};

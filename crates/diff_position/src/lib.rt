@@ -1,4 +1,6 @@
 // The lines of one position, written into a lent buffer from a place on; the place behind them is handed back.
+#![tactic(auto)]
+
 ghost use Rattle.std.specs.Prelude.{◌+◌, ◌≤◌, length};
 ghost use Rattle.laws.specs.Buffers.{Wrote};
 ghost use Rattle.laws.specs.Lists.{collect};

@@ -1,4 +1,6 @@
 // Rows of a listing gathered one at a time: what stands at each position, and what is wrong so far.
+#![tactic(auto)]
+
 ghost use Rattle.std.specs.Prelude.{◌≡◌, false, ◌≤◌};
 ghost use Rattle.rules.specs.House.{max_units, max_pairs};
 ghost use Rattle.rules_diff.specs.Differences.{twice, is_bad};

@@ -1,4 +1,6 @@
 // A lent list of node rows gathered. The kit's borrow checker does not cover a slice of structs: the walk is proved by hand.
+#![tactic(auto)]
+
 ghost use Rattle.std.specs.Prelude.{◌≡◌, map};
 ghost use Rattle.row_node.specs.View.{node_row_of};
 ghost use Rattle.diff_rows.specs.Gathering.{gathering_of, nothing_seen, gathered_all};

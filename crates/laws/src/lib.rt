@@ -1,1 +1,2 @@
 // Lemmas on lists, tests and buffers; no code.
+#![tactic(auto)]

@@ -1,4 +1,6 @@
 // The numbers given back, each by its name: paper 01's refusals, and 0 where there is none. `include/lathepetal.h` has the same names.
+#![tactic(auto)]
+
 pub const DONE: u8 = 0;
 
 // A record.

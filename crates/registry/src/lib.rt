@@ -1,4 +1,6 @@
 // The central registry: the ring picture, and what each record makes of it.
+#![tactic(auto)]
+
 mod answer; // answer.rt: ANSWER and NONE
 mod ending; // ending.rt: the ending of every event
 pub mod image; // image.rt: the ring picture, made and shown

@@ -1,4 +1,6 @@
 // The ending of an event: OK, and the wait for silent nodes.
+#![tactic(auto)]
+
 ghost use Rattle.std.specs.Prelude.{◌≡◌, cond, not, ◌&&◌, ◌||◌, [], ◌∷◌, ◌+◌, ◌≤◌, length};
 ghost use Rattle.laws.specs.Buffers.{Wrote};
 ghost use Rattle.rules.specs.Picture.{Ok, is_not_ok, is_ok};

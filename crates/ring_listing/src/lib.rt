@@ -1,4 +1,6 @@
 // The whole listing, flat: by position and announced order.
+#![tactic(auto)]
+
 ghost use Rattle.std.specs.Prelude.{◌≡◌, ◌+◌, ◌≤◌, map, length};
 ghost use Rattle.laws.specs.Buffers.{Wrote};
 ghost use Rattle.rules.specs.House.{max_entries, max_pairs};

@@ -1,4 +1,6 @@
 // Where a pair is listed.
+#![tactic(auto)]
+
 ghost use Rattle.std.specs.Prelude.{◌≡◌};
 ghost use Rattle.rules.specs.Listing.{first_of, entries_from, lookup_number, lookup_position, lookup_address};
 ghost use Rattle.wire_pairs.specs.View.{pair_of};

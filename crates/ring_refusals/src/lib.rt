@@ -1,4 +1,6 @@
 // Which number an event is refused with, 2 to 8, from what the picture says of it.
+#![tactic(auto)]
+
 ghost use Rattle.std.specs.Prelude.{◌≡◌, [], ◌<◌};
 ghost use Rattle.rules.specs.House.{max_units};
 ghost use Rattle.row_entry.specs.View.{row_of};

@@ -1,4 +1,6 @@
 // The listed rows of a ring picture, by position.
+#![tactic(auto)]
+
 ghost use Rattle.std.specs.Prelude.{◌≡◌, cond};
 ghost use Rattle.laws.specs.Views.{firsts};
 ghost use Rattle.rules_diff.specs.Differences.{listed_rows_from};

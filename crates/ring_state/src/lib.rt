@@ -1,4 +1,6 @@
 // The registry's marks: its state, and whether a delay runs.
+#![tactic(auto)]
+
 ghost use Rattle.std.specs.Prelude.{◌≡◌};
 ghost use Rattle.rules.specs.Picture.{is_ok};
 ghost use Rattle.ring_state.specs.State.{state_of};

@@ -1,4 +1,6 @@
 // The ring box at the bench: a script from standard input, answered line by line. See docs/BENCH-SCRIPT.md.
+#![tactic(auto)]
+
 mod command;
 mod difference_lines;
 mod help;

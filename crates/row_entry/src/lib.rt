@@ -1,4 +1,6 @@
 // The registry's entry of a node, and what happens to one entry.
+#![tactic(auto)]
+
 ghost use Rattle.std.specs.Prelude.{◌≡◌, [], ◌≤◌, min};
 ghost use Rattle.rules.specs.House.{max_units};
 ghost use Rattle.rules.specs.Picture.{Row, WAITING, is_open, is_silent, is_ignored, keeps, keeps_other, bars, pairs_in, new_row, no_row};

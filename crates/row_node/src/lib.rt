@@ -1,4 +1,6 @@
 // A node row: an entry with the position that it stands for.
+#![tactic(auto)]
+
 ghost use Rattle.std.specs.Prelude.{◌≡◌, min};
 ghost use Rattle.rules.specs.House.{max_pairs};
 ghost use Rattle.wire_pairs.specs.View.{pairs_of};

@@ -1,1 +1,2 @@
 // The papers as definitions; no code.
+#![tactic(auto)]

@@ -1,1 +1,2 @@
 // Lists of records that reach a bound of the rules; no code.
+#![tactic(auto)]

@@ -1,1 +1,2 @@
 // What the rules give at full size: one table; no code.
+#![tactic(auto)]

@@ -1,5 +1,7 @@
 // The sizes of paper 01 and of the tickets, each by its name. `rules/specs/House.antt` has the same ones for contracts
 // and proofs.
+#![tactic(auto)]
+
 ghost use Rattle.std.specs.Prelude.{◌≡◌, not, ltb};
 ghost use Rattle.rules.specs.House.{max_payload};
 ghost use Rattle.rules.specs.Picture.{legal_size};

@@ -1,4 +1,6 @@
 // Counting: how many telegrams a message has.
+#![tactic(auto)]
+
 ghost use Rattle.std.specs.Prelude.{◌≡◌, ◌≤◌};
 ghost use Rattle.rules.specs.House.{min_size, max_payload};
 ghost use Rattle.rules.specs.Telegram.{count_of, count};

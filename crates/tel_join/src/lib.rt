@@ -1,4 +1,6 @@
 // Reassembly: telegrams joined, one at a time, to the message that they were cut from.
+#![tactic(auto)]
+
 ghost use Rattle.std.specs.Prelude.{◌≡◌, ◌+◌, ◌≤◌, length, drop};
 ghost use Rattle.rules.specs.House.{max_size, max_payload};
 ghost use Rattle.rules.specs.Event.{be4};

@@ -1,4 +1,6 @@
 // Joining: the state between telegrams, what is answered of each, and the parts of a message put together.
+#![tactic(auto)]
+
 ghost use Rattle.std.specs.Prelude.{◌≡◌, ◌≤◌, length};
 ghost use Rattle.rules.specs.House.{max_size, max_payload};
 ghost use Rattle.rules.specs.Telegram.{idle, opened, begins, continues};

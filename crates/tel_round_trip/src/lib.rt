@@ -1,4 +1,6 @@
 // A message cut and joined again comes back the same: segmentation and reassembly, one after the other.
+#![tactic(auto)]
+
 ghost use Rattle.std.specs.Prelude.{true, ◌≡◌, ◌≤◌, length};
 ghost use Rattle.rules.specs.House.{max_payload};
 ghost use Rattle.rules.specs.Picture.{legal_size};

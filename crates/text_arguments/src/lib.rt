@@ -1,4 +1,6 @@
 // The arguments of a command, read from the left. The first that is wrong gives the reason, and the ones behind it are passed over.
+#![tactic(auto)]
+
 ghost use Rattle.std.specs.Prelude.{◌≡◌, ◌+◌, ◌<◌, length, set};
 ghost use Rattle.std.proofs.lemmas.List.Edits.{sets};
 ghost use Rattle.laws.specs.Buffers.{Wrote};

@@ -1,5 +1,7 @@
 // Standard input by lines. The contracts give every result and every lent buffer. They cannot speak of what a call of the system
 // reads, so these are open: that a read is made, and the bytes that it delivers.
+#![tactic(auto)]
+
 ghost use Rattle.std.specs.Prelude.{◌≡◌, ◌+◌, min};
 ghost use Rattle.text_in.specs.Lines.{max_line, unread, kept_at, Filled, NextLine};
 

@@ -1,4 +1,6 @@
 // Lists of words in a line: pairs, what names a row, and where hexadecimal groups end.
+#![tactic(auto)]
+
 ghost use Rattle.std.specs.Prelude.{◌≡◌, ◌+◌, ◌-◌, ◌≤◌, ◌<◌, length, drop};
 ghost use Rattle.std.proofs.lemmas.List.Edits.{sets};
 ghost use Rattle.laws.specs.Buffers.{Wrote};

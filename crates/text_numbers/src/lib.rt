@@ -1,4 +1,6 @@
 // The words of a number: what a refusal means, by what was asked, and why a line is not understood.
+#![tactic(auto)]
+
 ghost use Rattle.text_out.specs.Puts.{Puts};
 ghost use Rattle.text_out.specs.Spelling.{lined};
 ghost use Rattle.text_numbers.specs.Wording.{no_words, words_beside, of_record, of_picture, of_telegram, of_look_up, of_order, of_unit, of_compare, words_of, why_of};

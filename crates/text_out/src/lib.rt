@@ -1,5 +1,7 @@
 // Standard output through a buffer. The contracts give every result and every lent buffer. They cannot speak of what a call of the
 // system writes, so these are open: that what waits is what is written, and whether a write fails.
+#![tactic(auto)]
+
 ghost use Rattle.std.specs.Prelude.{◌≡◌, ◌≤◌, ◌<◌, length, true, false, [], ◌∷◌};
 ghost use Rattle.laws.specs.Lists.{collect};
 ghost use Rattle.text_words.specs.Text.{lf};

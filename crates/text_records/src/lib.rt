@@ -1,4 +1,6 @@
 // Records and orders in hexadecimal, with a blank between their fields, and pairs as words.
+#![tactic(auto)]
+
 ghost use Rattle.std.specs.Prelude.{◌≡◌, cond, ◌-◌, ◌≤◌, ltb, length, get_or};
 ghost use Rattle.text_in.specs.Lines.{max_line};
 ghost use Rattle.text_out.specs.Puts.{Puts};

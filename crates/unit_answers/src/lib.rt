@@ -1,4 +1,6 @@
 // The look-up answers that a unit keeps.
+#![tactic(auto)]
+
 ghost use Rattle.std.specs.Prelude.{◌≡◌, cond, [], ◌-◌, ◌≤◌, min};
 ghost use Rattle.rules.specs.House.{max_answers};
 ghost use Rattle.rules.specs.Picture.{holds};

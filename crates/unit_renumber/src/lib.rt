@@ -1,4 +1,6 @@
 // What a SET does to a unit's list.
+#![tactic(auto)]
+
 ghost use Rattle.std.specs.Prelude.{◌≡◌};
 ghost use Rattle.rules_unit.specs.Slave.{renumbered};
 ghost use Rattle.wire_pairs.specs.View.{pair_of, pairs_of};

@@ -1,4 +1,6 @@
 // The unit's side: a NetworkSlave that reads orders, keeps look-up answers and answers for itself.
+#![tactic(auto)]
+
 ghost use Rattle.std.specs.Prelude.{◌≡◌, true, [], ◌≤◌, length, drop};
 ghost use Rattle.std.proofs.Math.Option.{some};
 ghost use Rattle.laws.specs.Buffers.{Wrote};

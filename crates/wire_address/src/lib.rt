@@ -1,4 +1,6 @@
 // Where a node sits, and what it announces: two types, so that neither stands in for the other.
+#![tactic(auto)]
+
 ghost use Rattle.std.specs.Prelude.{◌≡◌, eqb};
 ghost use Rattle.rules.specs.Picture.{in_range};
 

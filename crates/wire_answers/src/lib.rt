@@ -1,4 +1,6 @@
 // The ANSWER record of a unit, written into a lent buffer.
+#![tactic(auto)]
+
 ghost use Rattle.std.specs.Prelude.{◌≤◌, [], ◌∷◌, ◌++◌, length};
 ghost use Rattle.laws.specs.Buffers.{Wrote};
 ghost use Rattle.rules.specs.Event.{ANSWER, two, header, encode_event};

@@ -1,4 +1,6 @@
 // Event records: what their bytes say.
+#![tactic(auto)]
+
 ghost use Rattle.std.specs.Prelude.{◌≡◌, ◌&&◌, [], ◌+◌, ◌*◌, ◌≤◌, eqb, length, drop};
 ghost use Rattle.laws.specs.Lists.{any};
 ghost use Rattle.rules.specs.House.{max_pairs};

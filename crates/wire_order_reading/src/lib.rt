@@ -1,4 +1,6 @@
 // Order records: what their bytes say.
+#![tactic(auto)]
+
 ghost use Rattle.std.specs.Prelude.{◌≡◌, get_or};
 ghost use Rattle.rules_unit.specs.Reading.{length_by, order_length, order_by, decode_order};
 ghost use Rattle.wire_order_reading.specs.View.{no_order, order_of, set_in, record_of};

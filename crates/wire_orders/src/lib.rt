@@ -1,4 +1,6 @@
 // Orders: each written into a lent buffer from a place on; the place behind it is handed back.
+#![tactic(auto)]
+
 ghost use Rattle.std.specs.Prelude.{◌≡◌, ◌+◌, ◌*◌, ◌≤◌, ◌<◌, min, [], length};
 ghost use Rattle.laws.specs.Buffers.{Wrote};
 ghost use Rattle.laws.specs.Lists.{collect};

@@ -1,4 +1,6 @@
 // Pairs of block and number (FBlockID, InstID), as many as a node keeps or announces.
+#![tactic(auto)]
+
 pub mod bools; // bools.rt: tests put together
 
 ghost use Rattle.std.specs.Prelude.{◌≡◌, cond, not, [], ◌≤◌, min, take, drop};

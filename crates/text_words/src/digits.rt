@@ -35,11 +35,11 @@ pub fn hex_value(byte: u8) -> u8
     if byte <= b'9' {
         return byte - b'0';
     }
-    if byte < b'a' {
+    if byte < b'A' {
         return NO_DIGIT;
     }
-    if byte <= b'f' {
-        return byte - b'a' + 10;
+    if byte <= b'F' {
+        return byte - b'A' + 10;
     }
     if byte < b'a' {
         return NO_DIGIT;
@@ -58,5 +58,5 @@ pub fn glyph(value: u8) -> u8
     if digit < 10 {
         return b'0' + digit;
     }
-    b'a' + (digit - 10)
+    b'A' + (digit - 10)
 }

@@ -17,7 +17,7 @@ use wire_pairs::bools::either;
 
 // The number of a refusal or 0, and how many bytes of lines are written.
 #[repr(C)]
-#[derive(Drop)]
+#[derive(Clone, Copy)]
 pub struct CompareOutcome {
     pub number: u8,
     pub length: usize,

@@ -15,7 +15,7 @@ use wire_pairs::Pairs;
 // What a list of rows has at each position: position p has seats[p - 1], with position 0 where there is no row. A bad row came; the
 // positions did not rise; the last position that a row was seated at.
 #[repr(C)]
-#[derive(Drop)]
+#[derive(Clone, Copy)]
 pub struct Rows {
     pub seats: [NodeRow; MAX_UNITS],
     pub last: u8,

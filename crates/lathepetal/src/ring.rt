@@ -15,7 +15,7 @@ use ring_listing::Listing;
 
 // A fresh picture, and 0 where it is for the L that was asked for.
 #[repr(C)]
-#[derive(Drop)]
+#[derive(Clone, Copy)]
 pub struct FreshOutcome {
     pub number: u8,
     pub picture: RegistryImage,
@@ -23,7 +23,7 @@ pub struct FreshOutcome {
 
 // The number of a refusal or 0, and where the pair is listed.
 #[repr(C)]
-#[derive(Drop)]
+#[derive(Clone, Copy)]
 pub struct LookupOutcome {
     pub number: u8,
     pub position: u8,

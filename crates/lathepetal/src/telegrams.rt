@@ -8,7 +8,7 @@ use tel_join_state::{JoinAnswer, Reassembly};
 
 // The number of a refusal or 0, and how many telegrams the message has.
 #[repr(C)]
-#[derive(Drop)]
+#[derive(Clone, Copy)]
 pub struct CountOutcome {
     pub number: u8,
     pub telegrams: usize,
@@ -16,7 +16,7 @@ pub struct CountOutcome {
 
 // The number of a refusal or 0, and how many bytes the telegram has.
 #[repr(C)]
-#[derive(Drop)]
+#[derive(Clone, Copy)]
 pub struct CutOutcome {
     pub number: u8,
     pub length: usize,
@@ -24,7 +24,7 @@ pub struct CutOutcome {
 
 // The number of a refusal or 0; 1 where the message is complete, with its MsgID and its length; and the next state.
 #[repr(C)]
-#[derive(Drop)]
+#[derive(Clone, Copy)]
 pub struct JoinOutcome {
     pub number: u8,
     pub complete: u8,

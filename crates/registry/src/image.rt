@@ -14,7 +14,7 @@ use sizes::{MAX_SIZE, MAX_UNITS, MIN_SIZE};
 // The paper's ring picture: the pass, the state, whether a delay runs, L, and an entry for each unit of the ring, the first `units` of
 // the array.
 #[repr(C)]
-#[derive(Drop)]
+#[derive(Clone, Copy)]
 pub struct RegistryImage {
     pub pass: u32,
     pub state: RegistryState,
@@ -25,14 +25,14 @@ pub struct RegistryImage {
 }
 
 // What making a picture answers: the number of a refusal, or that it is made for the L that was asked for.
-#[derive(Drop)]
+#[derive(Clone, Copy)]
 pub enum MakeAnswer {
     Refused(u8),
     Made,
 }
 
 // An answer, and a fresh picture.
-#[derive(Drop)]
+#[derive(Clone, Copy)]
 pub struct MadeImage {
     pub answer: MakeAnswer,
     pub picture: RegistryImage,

@@ -15,7 +15,7 @@ use wire_events::Event;
 // What a record gives back: the number of a refusal, 0 where it is taken; how many bytes the orders have; and the next picture. Numbers,
 // and no enum beside the picture, so that it crosses to C as it is.
 #[repr(C)]
-#[derive(Drop)]
+#[derive(Clone, Copy)]
 pub struct Recorded {
     pub number: u8,
     pub length: usize,

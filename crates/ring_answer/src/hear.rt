@@ -25,7 +25,7 @@ use wire_address::LogicalNodeAddress;
 use wire_pairs::Pairs;
 
 // The verdict on the address; the node's entry afterwards, which a conflict leaves as it is; and what is renumbered.
-#[derive(Drop)]
+#[derive(Clone, Copy)]
 pub struct Heard {
     pub verdict: Verdict,
     pub next: NodeEntry,
@@ -44,7 +44,7 @@ fn unrenumbered(verdict: Verdict, next: NodeEntry) -> Heard
 }
 
 // The pairs that a node keeps, and what is renumbered.
-#[derive(Drop)]
+#[derive(Clone, Copy)]
 struct Kept {
     pairs: Pairs,
     step: Renumbering,

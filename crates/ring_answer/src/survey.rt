@@ -13,7 +13,7 @@ use wire_address::LogicalNodeAddress;
 use wire_pairs::Pairs;
 
 // The claims of the other entries on an address, and a mark for each announced pair that one of them keeps.
-#[derive(Drop)]
+#[derive(Clone, Copy)]
 pub struct Survey {
     pub claims: Claims,
     pub held: [bool; MAX_PAIRS],

@@ -12,7 +12,7 @@ use ring_state::{CfgDelay, NOTOK, OFF, OK, RUNNING, RegistryState, STOPPED};
 use wire_orders::Notice;
 
 // What an ending makes of the registry's marks, and where its orders end.
-#[derive(Drop)]
+#[derive(Clone, Copy)]
 pub struct Closed {
     pub state: RegistryState,
     pub delay: CfgDelay,

@@ -16,7 +16,7 @@ use wire_address::LogicalNodeAddress;
 
 // DELAY asks a SILENT entry; a restart empties and asks one that is not IGNORED; a bad announcement is counted for those that it counts
 // for beside its own node, and at the limit they are IGNORED for the announced address.
-#[derive(Drop)]
+#[derive(Clone, Copy)]
 pub enum Change {
     Asked,
     Emptied,

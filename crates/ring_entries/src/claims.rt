@@ -11,7 +11,7 @@ use wire_address::LogicalNodeAddress;
 use wire_pairs::bools::either;
 
 // An entry bars the address; an entry keeps it.
-#[derive(Drop)]
+#[derive(Clone, Copy)]
 pub struct Claims {
     pub barred: bool,
     pub kept: bool,

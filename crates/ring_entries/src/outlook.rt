@@ -11,7 +11,7 @@ use sizes::MAX_UNITS;
 use wire_pairs::bools::either;
 
 // A question is open; a node is SILENT; a SILENT node counts fewer silences than the most.
-#[derive(Drop)]
+#[derive(Clone, Copy)]
 pub struct Outlook {
     pub open: bool,
     pub silent: bool,

@@ -8,7 +8,7 @@ use wire_address::LogicalNodeAddress;
 
 // The first that applies: an IGNORED entry bars the address; it is out of range; another entry keeps it; this entry keeps another one; or
 // it is fine.
-#[derive(Drop)]
+#[derive(Clone, Copy)]
 pub enum Verdict {
     Barred,
     Outside,

@@ -15,7 +15,7 @@ use wire_address::NodePosition;
 
 // The first `count` places hold entries: a position, an address, a block and a number each. The places behind them hold zeros.
 #[repr(C)]
-#[derive(Drop)]
+#[derive(Clone, Copy)]
 pub struct Listing {
     pub count: usize,
     pub positions: [u8; MAX_LISTED],

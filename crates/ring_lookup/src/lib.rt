@@ -13,7 +13,7 @@ use sizes::MAX_UNITS;
 use wire_address::{LogicalNodeAddress, NodePosition};
 
 // What a look-up answers: the number of a refusal, or where the pair is listed.
-#[derive(Drop)]
+#[derive(Clone, Copy)]
 pub enum Lookup {
     Refused(u8),
     Found {

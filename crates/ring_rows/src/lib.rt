@@ -17,7 +17,7 @@ use wire_pairs::one_if;
 
 // The first `count` places hold rows. The places behind them hold none: zeros.
 #[repr(C)]
-#[derive(Drop)]
+#[derive(Clone, Copy)]
 pub struct ListedRows {
     pub count: usize,
     pub rows: [NodeRow; MAX_UNITS],

@@ -7,7 +7,7 @@ ghost use Rattle.ring_state.specs.State.{state_of};
 
 // The registry's state by its number.
 #[repr(C)]
-#[derive(Drop)]
+#[derive(Clone, Copy)]
 pub struct RegistryState(pub u8);
 
 // The ring does not run.
@@ -34,7 +34,7 @@ pub fn is_ok(state: RegistryState) -> bool
 
 // Whether a delay runs, by its number.
 #[repr(C)]
-#[derive(Drop)]
+#[derive(Clone, Copy)]
 pub struct CfgDelay(pub u8);
 
 pub const STOPPED: u8 = 0;

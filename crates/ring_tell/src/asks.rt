@@ -12,7 +12,7 @@ use wire_address::NodePosition;
 use wire_orders::write_ask;
 
 // The entries that are asked: those whose question is open, or the SILENT ones.
-#[derive(Drop)]
+#[derive(Clone, Copy)]
 pub enum Which {
     Open,
     Silent,

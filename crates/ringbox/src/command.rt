@@ -12,7 +12,7 @@ pub const MAX_ROOM: usize = 8192;
 pub const MAX_DIFFERENCE_ROOM: usize = 20000;
 
 // A command with its arguments; the bytes of a record or of pairs stand in a buffer beside it.
-#[derive(Drop)]
+#[derive(Clone, Copy)]
 pub enum Command {
     NotUnderstood(u8),
     Fresh(usize),

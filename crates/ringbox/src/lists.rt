@@ -14,20 +14,20 @@ use wire_pairs::PAIR;
 const MAX_ROWS: usize = 64;
 
 // One of the two.
-#[derive(Drop)]
+#[derive(Clone, Copy)]
 pub enum Which {
     First,
     Second,
 }
 
 // Rows as they were gathered, and how many they are.
-#[derive(Drop)]
+#[derive(Clone, Copy)]
 pub struct RowList {
     pub rows: Rows,
     pub count: usize,
 }
 
-#[derive(Drop)]
+#[derive(Clone, Copy)]
 pub struct Lists {
     pub first: RowList,
     pub second: RowList,

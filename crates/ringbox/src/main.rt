@@ -26,7 +26,7 @@ use wire_pairs::PAIR;
 const FIRST_SIZE: usize = 12;
 
 // The picture, the order room that is lent, two lists of rows, and what is written.
-#[derive(Drop)]
+#[derive(Clone, Copy)]
 struct Bench {
     picture: RegistryImage,
     room: usize,

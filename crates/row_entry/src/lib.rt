@@ -16,7 +16,7 @@ use wire_pairs::Pairs;
 
 // The status of a node by its number.
 #[repr(C)]
-#[derive(Drop)]
+#[derive(Clone, Copy)]
 pub struct NodeStatus(pub u8);
 
 // Asked, and no answer yet.
@@ -43,7 +43,7 @@ pub const MAX_SILENCES: u8 = 20;
 // The paper's row: a node's address, its marks, and its pairs. Address and pairs count while the node is SETTING or LISTED, the
 // address alone while it is IGNORED, place and tries while it is SETTING.
 #[repr(C)]
-#[derive(Drop)]
+#[derive(Clone, Copy)]
 pub struct NodeEntry {
     pub address: LogicalNodeAddress,
     pub status: NodeStatus,

@@ -13,7 +13,7 @@ use wire_pairs::Pairs;
 
 // A row of a listing: where the unit sits, and the paper's row for it.
 #[repr(C)]
-#[derive(Drop)]
+#[derive(Clone, Copy)]
 pub struct NodeRow {
     pub position: NodePosition,
     pub entry: NodeEntry,

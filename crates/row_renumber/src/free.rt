@@ -13,7 +13,7 @@ use sizes::MAX_UNITS;
 use wire_pairs::Pairs;
 
 // A free number, or none.
-#[derive(Drop)]
+#[derive(Clone, Copy)]
 pub enum Free {
     Number(u8),
     Nothing,

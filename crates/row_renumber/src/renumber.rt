@@ -18,7 +18,7 @@ pub const MAX_TRIES: u8 = 3;
 const NO_BLOCK: u16 = 256;
 
 // Nothing is left to renumber, or one pair is: at this place, with these tries, to a new number.
-#[derive(Drop)]
+#[derive(Clone, Copy)]
 pub enum Renumbering {
     Finished,
     Renumbers {
@@ -66,7 +66,7 @@ fn free_for(
 }
 
 // What became of the pair at one place, and the block that is known to be full.
-#[derive(Drop)]
+#[derive(Clone, Copy)]
 struct Attempted {
     renumbering: Renumbering,
     full: u16,

@@ -9,7 +9,7 @@ ghost use Rattle.tel_count.specs.Answers.{count_number_of, count_value_of, count
 use numbers::{DONE, ILLEGAL_SIZE, PAYLOAD_TOO_LONG};
 
 // What `count` answers: the number of a refusal, or how many telegrams the message has.
-#[derive(Drop)]
+#[derive(Clone, Copy)]
 pub enum CountAnswer {
     Refused(u8),
     Telegrams(usize),

@@ -13,7 +13,7 @@ use numbers::{DONE, ILLEGAL_SIZE, NO_SUCH_TELEGRAM, PAYLOAD_TOO_LONG, ROOM_TOO_S
 use tel_head::{COUNTER, HEAD, TEL_ID_FINAL, TEL_ID_FIRST, TEL_ID_NEXT, TEL_ID_SINGLE};
 
 // What `cut` answers: the number of a refusal, or the length of the telegram.
-#[derive(Drop)]
+#[derive(Clone, Copy)]
 pub enum CutAnswer {
     Refused(u8),
     Length(usize),

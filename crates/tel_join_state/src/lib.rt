@@ -12,7 +12,7 @@ use sizes::MAX_PAYLOAD;
 // What is remembered between telegrams, as plain numbers: whether a message is open (0: none is), its MsgID, the counter that comes
 // next, and its length so far.
 #[repr(C)]
-#[derive(Drop)]
+#[derive(Clone, Copy)]
 pub struct Reassembly {
     pub open: u32,
     pub msg_id: u32,
@@ -21,7 +21,7 @@ pub struct Reassembly {
 }
 
 // What `join` answers: the number of a refusal, that more is to come, or that the message is complete.
-#[derive(Drop)]
+#[derive(Clone, Copy)]
 pub enum JoinAnswer {
     Refused(u8),
     Open,
@@ -29,7 +29,7 @@ pub enum JoinAnswer {
 }
 
 // An answer, and the state for the next telegram.
-#[derive(Drop)]
+#[derive(Clone, Copy)]
 pub struct Joined {
     pub answer: JoinAnswer,
     pub state: Reassembly,

@@ -12,7 +12,7 @@ pub const MAX_TELEGRAM: usize = 8192;
 const MSG_ID_DIGITS: usize = 8;
 
 // A command with its arguments; a payload's and a telegram's bytes stand in buffers beside it.
-#[derive(Drop)]
+#[derive(Clone, Copy)]
 pub enum Command {
     NotUnderstood(u8),
     Payload(usize),

@@ -17,7 +17,7 @@ use text_out::{Output, SPACE};
 use text_words::numbers::smaller;
 
 // How many bytes the payload has, the join state, and what is written.
-#[derive(Drop)]
+#[derive(Clone, Copy)]
 struct Desk {
     payload: usize,
     joining: Reassembly,

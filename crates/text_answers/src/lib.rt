@@ -16,7 +16,7 @@ use text_words::words;
 const SHOWN: usize = 64;
 
 // What a line is, by its first character.
-#[derive(Drop)]
+#[derive(Clone, Copy)]
 pub enum LineKind {
     Remark,
     EarlierAnswer,

@@ -39,7 +39,7 @@ pub const TOO_MANY: u8 = 11;
 const ANY: u32 = 4294967295;
 
 // A value, why there is none, and the place behind it.
-#[derive(Drop)]
+#[derive(Clone, Copy)]
 pub struct Argument {
     pub reason: u8,
     pub value: usize,

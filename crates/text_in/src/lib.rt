@@ -16,14 +16,14 @@ pub const MAX_LINE: usize = 16384;
 const LF: u8 = 10;
 
 // What is read and not used yet: the bytes of the chunk from `from` to `to`.
-#[derive(Drop)]
+#[derive(Clone, Copy)]
 pub struct Input {
     pub from: usize,
     pub to: usize,
 }
 
 // A line: whether there is one, its length without the blanks and CRs at its end (above 16,384: too long), and the input behind it.
-#[derive(Drop)]
+#[derive(Clone, Copy)]
 pub struct Line {
     pub present: bool,
     pub length: usize,

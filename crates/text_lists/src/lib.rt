@@ -21,7 +21,7 @@ const ADDRESS_DIGITS: usize = 4;
 const PAIR_WORD: usize = 5;
 
 // A position, an address and how many pairs, or why they are none.
-#[derive(Drop)]
+#[derive(Clone, Copy)]
 pub struct RowWords {
     pub reason: u8,
     pub position: u8,

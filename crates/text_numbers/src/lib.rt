@@ -21,7 +21,7 @@ use text_out::{Output, SPACE};
 
 // What was asked, and has its own numbers: a record to take, a fresh picture, a telegram to count, cut or join, a look-up, an
 // order to read, a unit to make, two lists of rows to compare.
-#[derive(Drop)]
+#[derive(Clone, Copy)]
 pub enum Asked {
     Record,
     Picture,

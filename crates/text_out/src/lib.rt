@@ -17,7 +17,7 @@ pub const SPACE: usize = 65536;
 const LF: u8 = 10;
 
 // How many bytes wait to be written, and whether a write failed.
-#[derive(Drop)]
+#[derive(Clone, Copy)]
 pub struct Output {
     pub waiting: usize,
     pub closed: bool,

@@ -5,7 +5,7 @@ ghost use Rattle.text_words.specs.Text.{all_digits, number, decimal_of, byte_of}
 use super::digits;
 
 // What a word of digits is: no number, above the limit, or a number.
-#[derive(Drop)]
+#[derive(Clone, Copy)]
 pub enum DecimalWord {
     NoNumber,
     TooLarge,

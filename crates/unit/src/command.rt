@@ -9,7 +9,7 @@ pub const MAX_ORDER: usize = 8192;
 pub const MAX_ROOM: usize = 8192;
 
 // A command with its arguments; the bytes of an order or of pairs stand in a buffer beside it.
-#[derive(Drop)]
+#[derive(Clone, Copy)]
 pub enum Command {
     NotUnderstood(u8),
     Unit {

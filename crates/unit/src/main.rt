@@ -25,7 +25,7 @@ const FIRST_POSITION: u8 = 1;
 const FIRST_ADDRESS: u16 = 0x0101;
 
 // The unit, the room that is lent, and what is written.
-#[derive(Drop)]
+#[derive(Clone, Copy)]
 struct Bench {
     unit: NetworkSlave,
     room: usize,

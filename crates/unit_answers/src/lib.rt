@@ -15,7 +15,7 @@ use wire_pairs::PAIR;
 
 // The answers, the oldest first: the first `count` places of each array. The standard calls it a decentral registry.
 #[repr(C)]
-#[derive(Drop)]
+#[derive(Clone, Copy)]
 pub struct DecentralRegistry {
     pub count: usize,
     pub addresses: [u16; MAX_ANSWERS],

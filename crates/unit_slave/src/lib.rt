@@ -24,7 +24,7 @@ use wire_pairs::{PAIR, Pairs};
 
 // A unit: where it sits and what it announces, the pass of the last order that it read, and the look-up answers that it keeps.
 #[repr(C)]
-#[derive(Drop)]
+#[derive(Clone, Copy)]
 pub struct NetworkSlave {
     pub pass: u32,
     pub address: LogicalNodeAddress,
@@ -35,7 +35,7 @@ pub struct NetworkSlave {
 
 // A unit that is made, and 0; or 2, and a unit without pairs.
 #[repr(C)]
-#[derive(Drop)]
+#[derive(Clone, Copy)]
 pub struct UnitMade {
     pub number: u8,
     pub unit: NetworkSlave,
@@ -44,7 +44,7 @@ pub struct UnitMade {
 // What an order gives back: the number of a refusal or 0, how many bytes the ANSWER has that stands at the start of the lent room, and
 // the unit afterwards.
 #[repr(C)]
-#[derive(Drop)]
+#[derive(Clone, Copy)]
 pub struct OrderRead {
     pub number: u8,
     pub length: usize,

@@ -6,12 +6,12 @@ ghost use Rattle.rules.specs.Picture.{in_range};
 
 // A node position: where a unit sits in the ring.
 #[repr(C)]
-#[derive(Drop)]
+#[derive(Clone, Copy)]
 pub struct NodePosition(pub u8);
 
 // A logical node address: what a unit announces.
 #[repr(C)]
-#[derive(Drop)]
+#[derive(Clone, Copy)]
 pub struct LogicalNodeAddress(pub u16);
 
 // The addresses that a unit may announce.

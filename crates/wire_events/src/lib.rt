@@ -53,7 +53,7 @@ const BLOCK_MIN: u8 = 0x02;
 const BLOCK_MAX: u8 = 0xFE;
 
 // An event, or bytes that are none.
-#[derive(Drop)]
+#[derive(Clone, Copy)]
 pub enum Event {
     Malformed,
     Start(u8),
@@ -74,7 +74,7 @@ pub enum Event {
 }
 
 // An event, and the pairs that an ANSWER announces.
-#[derive(Drop)]
+#[derive(Clone, Copy)]
 pub struct EventRecord {
     pub event: Event,
     pub pairs: Pairs,

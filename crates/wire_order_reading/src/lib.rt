@@ -16,7 +16,7 @@ use wire_pairs::PAIR;
 pub const PAIRS: usize = HEAD + COUNT;
 
 // An order, or bytes that are none. The pairs of a NEW and of an INVALID stay in the bytes, from `PAIRS` on.
-#[derive(Drop)]
+#[derive(Clone, Copy)]
 pub enum Order {
     Malformed,
     Ask(NodePosition),
@@ -36,7 +36,7 @@ pub enum Order {
 }
 
 // An order, and the pass that it carries; beside bytes that are no order the pass is left open.
-#[derive(Drop)]
+#[derive(Clone, Copy)]
 pub struct OrderRecord {
     pub pass: u32,
     pub order: Order,

@@ -61,7 +61,7 @@ pub const WAIT_SHORT: u8 = 7;
 pub const WAIT_LONG: u8 = 8;
 
 // An order that says nothing but its kind.
-#[derive(Drop)]
+#[derive(Clone, Copy)]
 pub enum Notice {
     Ok,
     NotOk,
@@ -70,7 +70,7 @@ pub enum Notice {
 }
 
 // An order that lists pairs: those newly kept, or those no longer kept.
-#[derive(Drop)]
+#[derive(Clone, Copy)]
 pub enum Delta {
     New,
     Invalid,

@@ -16,7 +16,7 @@ pub const PAIR: usize = 2;
 
 // The first `count` places hold pairs.
 #[repr(C)]
-#[derive(Drop)]
+#[derive(Clone, Copy)]
 pub struct Pairs {
     pub count: usize,
     pub blocks: [u8; MAX_PAIRS],

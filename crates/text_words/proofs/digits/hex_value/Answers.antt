@@ -15,23 +15,23 @@ returns-then-byte-le57 c =
     let b = c.args.byte in
     (sym (decimal_digit b (inside 48 57 b (omega arith) (omega arith))), omega arith)
 
-pub returns-then-byte-lt97 : goal.returns-then-byte-lt97
-returns-then-byte-lt97 c =
+pub returns-then-byte-lt65 : goal.returns-then-byte-lt65
+returns-then-byte-lt65 c =
     let b = c.args.byte in
     (sym (no_digit b (above 48 57 b (omega arith)) (below 65 70 b (omega arith)) (below 97 102 b (omega arith))), omega arith)
 
-pub returns-then-byte-le102 : goal.returns-then-byte-le102
-returns-then-byte-le102 c =
+pub returns-then-byte-le70 : goal.returns-then-byte-le70
+returns-then-byte-le70 c =
     let b = c.args.byte in
     (sym (upper_digit b (above 48 57 b (omega arith)) (inside 65 70 b (omega arith) (omega arith))), omega arith)
 
-pub returns-then-byte-lt97-2 : goal.returns-then-byte-lt97-2
-returns-then-byte-lt97-2 c =
+pub returns-then-byte-lt97 : goal.returns-then-byte-lt97
+returns-then-byte-lt97 c =
     let b = c.args.byte in
     (sym (no_digit b (above 48 57 b (omega arith)) (above 65 70 b (omega arith)) (below 97 102 b (omega arith))), omega arith)
 
-pub returns-then-byte-le102-2 : goal.returns-then-byte-le102-2
-returns-then-byte-le102-2 c =
+pub returns-then-byte-le102 : goal.returns-then-byte-le102
+returns-then-byte-le102 c =
     let b = c.args.byte in
     (sym (lower_digit b (above 48 57 b (omega arith)) (above 65 70 b (omega arith)) (inside 97 102 b (omega arith) (omega arith))), omega arith)
 

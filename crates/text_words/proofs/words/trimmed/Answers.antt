@@ -19,13 +19,13 @@ pub returns-then-not-is_dropped : goal.returns-then-not-is_dropped
 returns-then-not-is_dropped c =
     let line = c.args.line.now in
     let w = c.loop-n.invariant in
-    (back_stops is_dropped line _ 0 c.loop-n-test.true w.0 (sym c.is_dropped.ensures ∙ not_true _ c.if-not-is_dropped.true) w.1, w.0)
+    (back_stops is_dropped line _ 0 c.loop-n-test.true w.0 (sym c.is_dropped.ensures ∙ c.if-not-is_dropped.true) w.1, w.0)
 
 pub loop-n-preserved : goal.loop-n-preserved
 loop-n-preserved c =
     let line = c.args.line.now in
     let w = c.loop-n.invariant in
-    (omega arith, back_on is_dropped line _ 0 c.loop-n-test.true w.0 (sym c.is_dropped.ensures ∙ not_false _ c.if-not-is_dropped.false) w.1)
+    (omega arith, back_on is_dropped line _ 0 c.loop-n-test.true w.0 (sym c.is_dropped.ensures ∙ c.if-not-is_dropped.false) w.1)
 
 pub returns : goal.returns
 returns c =

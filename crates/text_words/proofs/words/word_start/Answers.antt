@@ -17,14 +17,14 @@ returns-then-not-is_blank c =
     let line = c.args.line.now in
     let at = c.loop-at.at in
     let w = c.loop-at.invariant in
-    (run_stops is_blank line at 0 c.loop-at-test.true (sym c.is_blank.ensures ∙ not_true _ c.if-not-is_blank.true) w.1, w.0)
+    (run_stops is_blank line at 0 c.loop-at-test.true (sym c.is_blank.ensures ∙ c.if-not-is_blank.true) w.1, w.0)
 
 pub loop-at-preserved : goal.loop-at-preserved
 loop-at-preserved c =
     let line = c.args.line.now in
     let at = c.loop-at.at in
     let w = c.loop-at.invariant in
-    (omega arith, run_on is_blank line at 0 c.loop-at-test.true (sym c.is_blank.ensures ∙ not_false _ c.if-not-is_blank.false) w.1)
+    (omega arith, run_on is_blank line at 0 c.loop-at-test.true (sym c.is_blank.ensures ∙ c.if-not-is_blank.false) w.1)
 
 pub returns : goal.returns
 returns c =

@@ -1,0 +1,38 @@
+-- Length, mark and kind, in the code's order.
+use Rattle.rules.specs.Event.{decode, decode_plain}
+use Prim.Native.Nat.{ℕ}
+use borrow.Author.Rules.{rules}
+use borrow.Author.Tests.{eq-eqb, le-leb, lt-leb, ne_eqb}
+use lib.ListN.{get_or}
+use mathlib.Core.Path.{◌∙◌, ap}
+use Rattle.wire_events.proofs.decode.Goals as goal
+
+pub returns-then-bytes-lt-HEAD : goal.returns-then-bytes-lt-HEAD
+unfolding decode
+returns-then-bytes-lt-HEAD c =
+    simp (c.plain.ensures.0, lt-leb _ _ c.if-bytes-lt-HEAD.true)
+
+pub returns-then-bytes-ne-MARK_FIRST : goal.returns-then-bytes-ne-MARK_FIRST
+unfolding decode
+returns-then-bytes-ne-MARK_FIRST c =
+    simp (c.plain-then-bytes-ne-MARK_FIRST.ensures.0, le-leb _ _ c.if-bytes-lt-HEAD.false, ne_eqb _ _ c.if-bytes-ne-MARK_FIRST.true)
+
+pub returns-then-bytes-ne-MARK_SECOND : goal.returns-then-bytes-ne-MARK_SECOND
+unfolding decode
+returns-then-bytes-ne-MARK_SECOND c =
+    simp (c.plain-then-bytes-ne-MARK_SECOND.ensures.0, le-leb _ _ c.if-bytes-lt-HEAD.false, eq-eqb _ _ c.if-bytes-ne-MARK_FIRST.false, ne_eqb _ _ c.if-bytes-ne-MARK_SECOND.true)
+
+pub returns-then-kind-eq-ANSWER : goal.returns-then-kind-eq-ANSWER
+unfolding decode
+returns-then-kind-eq-ANSWER c =
+    simp (le-leb _ _ c.if-bytes-lt-HEAD.false, eq-eqb _ _ c.if-bytes-ne-MARK_FIRST.false, eq-eqb _ _ c.if-bytes-ne-MARK_SECOND.false, eq-eqb _ _ c.if-kind-eq-ANSWER.true) c.decode_answer?decode_answer_lem.ensures
+
+pub returns-then-bytes-ne-HEAD : goal.returns-then-bytes-ne-HEAD
+unfolding decode
+returns-then-bytes-ne-HEAD c =
+    simp (c.plain-then-bytes-ne-HEAD.ensures.0, le-leb _ _ c.if-bytes-lt-HEAD.false, eq-eqb _ _ c.if-bytes-ne-MARK_FIRST.false, eq-eqb _ _ c.if-bytes-ne-MARK_SECOND.false, ne_eqb _ _ c.if-kind-eq-ANSWER.false, ne_eqb _ _ c.if-bytes-ne-HEAD.true)
+
+pub returns : goal.returns
+unfolding decode
+returns c =
+    simp (le-leb _ _ c.if-bytes-lt-HEAD.false, eq-eqb _ _ c.if-bytes-ne-MARK_FIRST.false, eq-eqb _ _ c.if-bytes-ne-MARK_SECOND.false, ne_eqb _ _ c.if-kind-eq-ANSWER.false, eq-eqb _ _ c.if-bytes-ne-HEAD.false) (c.decode_plain.ensures ∙ ap (λ (p : ℕ). decode_plain (get_or c.args.bytes.now 2 0) p (get_or c.args.bytes.now 7 0)) c.read4.ensures)

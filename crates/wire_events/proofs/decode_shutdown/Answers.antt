@@ -1,0 +1,20 @@
+-- The pass first, then x.
+use Rattle.rules.specs.Event.{check}
+use borrow.Author.Rules.{rules}
+use borrow.Author.Tests.{eq-eqb, ne_eqb}
+use Rattle.wire_events.proofs.decode_shutdown.Goals as goal
+
+pub returns-then-pass-ne0 : goal.returns-then-pass-ne0
+unfolding check
+returns-then-pass-ne0 c =
+    simp (c.plain.ensures.0, ne_eqb _ _ c.if-pass-ne0.true)
+
+pub returns-then-x-ne0 : goal.returns-then-x-ne0
+unfolding check
+returns-then-x-ne0 c =
+    simp (c.plain-then-x-ne0.ensures.0, eq-eqb _ _ c.if-pass-ne0.false, ne_eqb _ _ c.if-x-ne0.true)
+
+pub returns : goal.returns
+unfolding check
+returns c =
+    simp (c.plain-2.ensures.0, eq-eqb _ _ c.if-pass-ne0.false, eq-eqb _ _ c.if-x-ne0.false)

@@ -1,0 +1,14 @@
+-- Two words, by shift.
+use Prim.Native.Nat.{◌+◌}
+use Rattle.laws.specs.Bits.{shift_or}
+use Rattle.rules.specs.Event.{be2, be4}
+use borrow.Author.Rules.{rules}
+use mathlib.Core.Path.{◌≡◌}
+use native.Mathlib.Omega.{arith}
+use Rattle.wire_octets.proofs.read4.Goals as goal
+
+pub returns : goal.returns
+unfolding be4 be2
+returns c =
+    let e : c.args.at + 2 + 1 ≡ c.args.at + 3 = omega arith in
+    rw e (omega (arith, shift_or 32 16 c.word-high.result c.word-low.result (omega arith) (omega arith)))

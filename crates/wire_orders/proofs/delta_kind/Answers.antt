@@ -1,0 +1,13 @@
+-- By the order.
+use Rattle.rules.specs.Order.{kind_of}
+use borrow.Author.Rules.{rules}
+use mathlib.Core.Path.{refl}
+use Rattle.wire_orders.proofs.delta_kind.Goals as goal
+
+pub returns-in-New : goal.returns-in-New
+unfolding kind_of
+returns-in-New c = rw c.enum_told-1.given.1 refl
+
+pub returns-in-Invalid : goal.returns-in-Invalid
+unfolding kind_of
+returns-in-Invalid c = rw c.enum_told-in-Invalid-1.given.1 refl

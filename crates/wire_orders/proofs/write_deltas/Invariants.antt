@@ -1,0 +1,20 @@
+-- At every turn the orders for the pairs that are left, written from here on, make the whole.
+use Prim.Native.Nat.{◌-◌, ◌≤◌, min}
+use Rattle.laws.specs.Buffers.{Owes, owes_end, owes_start}
+use Rattle.rules.specs.Ending.{tell}
+use Rattle.rules.specs.Order.{encode_all}
+use Rattle.wire_pairs.specs.View.{pairs_from}
+use Rattle.wire_pairs.proofs.Arrays.{first_past}
+use Rattle.wire_orders.proofs.Tellings.{part_room, part_turn, tell_end}
+use Rattle.wire_orders.specs.View.{delta_of}
+use borrow.Author.Rules.{rules}
+use lib.ListN.{drop, length}
+use mathlib.Core.Path.{◌∙◌, ◌≡◌, ap, refl}
+use native.Mathlib.Omega.{arith}
+use Rattle.wire_orders.proofs.write_deltas.Given as goal
+
+abbrev pub invariant-loop-from : goal.invariant-loop-from
+invariant-loop-from l = (l.from ≤ l.held) × (length l.out ≡ length l.initial.out) × Owes l.initial.out l.at (encode_all l.pass (tell (delta_of l.delta) l.size (pairs_from l.count l.blocks l.numbers))) l.end l.out (encode_all l.pass (tell (delta_of l.delta) l.size (drop l.from (pairs_from l.count l.blocks l.numbers))))
+
+abbrev pub decreases-loop-from : goal.decreases-loop-from
+decreases-loop-from l = l.held - l.from

@@ -1,0 +1,32 @@
+-- The head, the count, and the pairs.
+use Rattle.wire_orders.proofs.Bytes.{head_end, part_length, wrote_delta}
+use Rattle.wire_orders.specs.View.{part}
+use lib.ListN.{length-set}
+use mathlib.Core.Path.{◌∙◌, sym}
+use native.Mathlib.Omega.{arith}
+use borrow.Author.Rules.{rules}
+use Rattle.wire_orders.proofs.write_part.Goals as goal
+
+pub bounds-out-body : goal.bounds-out-body
+bounds-out-body c =
+    omega (arith, head_end c.args.pass c.write_head-body.ensures, c.write_head-body.auto.0)
+
+pub overflow_add-body : goal.overflow_add-body
+overflow_add-body c =
+    omega (arith, head_end c.args.pass c.write_head-body.ensures)
+
+pub write_pairs-requires : goal.write_pairs-requires
+write_pairs-requires c =
+    (omega arith, simp length-set (omega (arith, head_end c.args.pass c.write_head-body.ensures, c.write_head-body.auto.0)))
+
+pub shape_of-out : goal.shape_of-out
+shape_of-out c =
+    simp length-set at c.write_pairs.auto.0 ∙ c.write_head-body.auto.0
+
+pub returns : goal.returns
+returns c =
+    let bs = c.args.blocks.now in
+    let ns = c.args.numbers.now in
+    let from = c.args.from in
+    let n = c.args.n in
+    wrote_delta c.args.pass n c.args.delta (part from n bs ns) c.delta_kind-kind.ensures (sym (part_length bs ns from n (omega arith))) c.write_head-body.ensures c.write_pairs.ensures

@@ -6,14 +6,8 @@ use Rattle.row_entry.specs.View.{row_of, rows_of}
 use borrow.Author.Rules.{rules}
 use lib.ListN.{replicate}
 use mathlib.Core.Path.{◌∙◌, ap}
-use Rattle.registry.proofs.image.new_entries.Statement.{statement}
-use Rattle.registry.proofs.image.new_entries.Tie as tie
+use Rattle.registry.proofs.image.new_entries.Goals as goal
 
-returns : tie.Need-returns
+pub returns : goal.returns
 unfolding rows_of
 returns c = (λ k h. firsts_replicate row_of k max_units c.new.result h ∙ ap (replicate k) c.new.ensures.0, all_replicate max_units c.new.result c.new.ensures.1)
-
-pub new-entries-spec : {M : Type 1} → statement M
-new-entries-spec =
-    tie.close
-    (tie.spec (search rules) returns)

@@ -2,7 +2,6 @@
 use Rattle.laws.specs.Runs.{drop_here}
 use Rattle.text_answers.proofs.Parts.{kind_empty, kind_remark, kind_answered, kind_other, kind_refused, kind_offer}
 use native.Mathlib.Omega.{arith}
-use borrow.Author.Rules.{rules}
 use Rattle.text_answers.proofs.kind_of.Goals as goal
 
 pub returns-then-line-eq0 : goal.returns-then-line-eq0

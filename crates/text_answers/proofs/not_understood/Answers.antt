@@ -1,7 +1,6 @@
 -- The comment's parts, one after the other.
 use Rattle.text_out.specs.Putting.{puts_append, puts_along}
 use Rattle.text_answers.proofs.Parts.{comment_is}
-use borrow.Author.Rules.{rules}
 use Rattle.text_answers.proofs.not_understood.Goals as goal
 
 pub returns : goal.returns

@@ -1,7 +1,6 @@
 -- The number, and then what it means.
 use Rattle.text_out.specs.Putting.{puts_append, puts_along}
 use Rattle.text_answers.proofs.Parts.{refusal_is}
-use borrow.Author.Rules.{rules}
 use Rattle.text_answers.proofs.refusal.Goals as goal
 
 pub returns : goal.returns

@@ -5,7 +5,6 @@ use native.Mathlib.Omega.{arith}
 use borrow.Author.Tests.{lt-ltb, le-ltb, eq-eqb, ne_eqb}
 use Rattle.laws.specs.Bools.{cond_true, cond_false}
 use Rattle.text_answers.specs.Remarks.{shown_of}
-use borrow.Author.Rules.{rules}
 use Rattle.text_answers.proofs.shown.Goals as goal
 
 pub returns-then-reason-ne-TOO_LONG : goal.returns-then-reason-ne-TOO_LONG

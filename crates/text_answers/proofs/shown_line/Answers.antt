@@ -1,7 +1,6 @@
 -- A blank stands before bytes only.
 use Rattle.text_out.specs.Putting.{puts_append, puts_along}
 use Rattle.text_answers.proofs.Parts.{spaced_none, spaced_some}
-use borrow.Author.Rules.{rules}
 use Rattle.text_answers.proofs.shown_line.Goals as goal
 
 pub returns-then-bytes-eq0 : goal.returns-then-bytes-eq0

@@ -3,7 +3,6 @@ use mathlib.Core.Path.{sym}
 use borrow.Author.Tests.{lt-ltb, le-ltb}
 use Rattle.laws.specs.Bools.{cond_true, cond_false}
 use Rattle.text_answers.specs.Remarks.{told_of}
-use borrow.Author.Rules.{rules}
 use Rattle.text_answers.proofs.told.Goals as goal
 
 pub returns-then-line : goal.returns-then-line

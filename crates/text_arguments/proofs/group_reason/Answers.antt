@@ -1,8 +1,6 @@
 -- A group has another byte, an odd number of digits, or whole bytes.
 use mathlib.Core.Path.{sym, ◌∙◌}
-use Rattle.laws.specs.Bools.{not_true, not_false}
 use Rattle.text_arguments.proofs.Groups.{group_none, group_odd, group_whole}
-use borrow.Author.Rules.{rules}
 use Rattle.text_arguments.proofs.group_reason.Goals as goal
 
 pub returns-then-not-all_hex : goal.returns-then-not-all_hex

@@ -1,7 +1,6 @@
 -- A byte without room changes nothing.
 use mathlib.Core.Path.{sym}
 use lib.Seq.{set_out}
-use borrow.Author.Rules.{rules}
 use Rattle.text_arguments.proofs.put.Goals as goal
 
 pub returns-else-at-bytes : goal.returns-else-at-bytes

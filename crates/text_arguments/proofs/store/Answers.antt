@@ -1,13 +1,12 @@
 -- The bytes of the digits that are left are still to be stored.
-use Prim.Native.Nat.{◌+◌, ◌-◌, ◌≤◌}
+use Prim.Native.Nat.{◌+◌}
 use mathlib.Core.Path.{refl, ◌∙◌, ap}
 use mathlib.Core.List.{[], ◌∷◌}
-use lib.ListN.{length, drop, length-drop, get_or, set}
-use Rattle.laws.specs.Buffers.{Owes, owes_start, owes_on, owes_end, owes_length}
+use lib.ListN.{drop, length-drop, get_or, set}
+use Rattle.laws.specs.Buffers.{owes_start, owes_on, owes_end, owes_length}
 use Rattle.laws.specs.Runs.{drop_two}
-use Rattle.text_words.specs.Text.{byte_of, bytes_of}
+use Rattle.text_words.specs.Text.{byte_of}
 use Rattle.text_arguments.proofs.Groups.{bytes_two, bytes_none}
-use borrow.Author.Rules.{rules}
 use native.Mathlib.Omega.{arith}
 use Rattle.text_arguments.proofs.store.Goals as goal
 

@@ -1,11 +1,8 @@
 -- The place passed over so far, and the bytes from there on that stand before two blanks in a row, make the place asked for.
 use Prim.Native.Nat.{◌+◌, ◌-◌, ◌≤◌}
-use mathlib.Core.Path.{◌≡◌, sym, ◌∙◌}
+use mathlib.Core.Path.{◌≡◌}
 use lib.ListN.{length, drop}
 use Rattle.text_lists.specs.Lists.{close_length, hex_length}
-use Rattle.text_lists.proofs.HexRuns.{hex_within, hex_start, hex_stops, hex_on, hex_ends}
-use borrow.Author.Rules.{rules}
-use native.Mathlib.Omega.{arith}
 use Rattle.text_lists.proofs.hex_end.Given as goal
 
 abbrev pub invariant-loop-at : goal.invariant-loop-at

@@ -1,8 +1,6 @@
 -- Another length, no dot, other bytes than digits, or a pair.
 use mathlib.Core.Path.{sym, ◌∙◌}
-use Rattle.laws.specs.Bools.{not_true, not_false}
 use Rattle.text_lists.proofs.PairWords.{pair_length, pair_dot, pair_first, pair_second}
-use borrow.Author.Rules.{rules}
 use Rattle.text_lists.proofs.is_pair.Goals as goal
 
 pub returns-then-word-ne-PAIR_WORD : goal.returns-then-word-ne-PAIR_WORD

@@ -1,8 +1,6 @@
 -- No pair, one that is taken, or one too many.
 use mathlib.Core.Path.{sym, ◌∙◌}
-use Rattle.laws.specs.Bools.{not_true, not_false}
 use Rattle.text_lists.proofs.PairWords.{pair_none, pair_taken, pair_many}
-use borrow.Author.Rules.{rules}
 use Rattle.text_lists.proofs.pair_reason.Goals as goal
 
 pub returns-then-not-is_pair : goal.returns-then-not-is_pair

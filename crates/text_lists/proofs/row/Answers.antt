@@ -1,8 +1,6 @@
 -- Position, address and pairs, each behind the one before.
 use mathlib.Core.Path.{◌∙◌, ap}
-use mathlib.Core.List.{List}
 use lib.Seq.{sets}
-use borrow.Author.Rules.{rules}
 use Rattle.text_arguments.specs.declared.Argument.{Argument}
 use Rattle.text_lists.specs.Lists.{pairs_stored, row_stored}
 use Rattle.text_lists.proofs.RowNames.{address_read, row_read}

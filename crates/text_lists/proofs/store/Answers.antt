@@ -1,6 +1,5 @@
 -- The block, and then the number.
 use Rattle.text_lists.proofs.PairWords.{pair_stored}
-use borrow.Author.Rules.{rules}
 use Rattle.text_lists.proofs.store.Goals as goal
 
 pub returns : goal.returns

@@ -3,11 +3,9 @@ use mathlib.Core.Path.{sym, ◌∙◌, ap}
 use mathlib.Core.Bool.{Bool, ◌&&◌}
 use native.Mathlib.Omega.{arith}
 use lib.ListN.{get_or}
-use Rattle.laws.specs.Bools.{not_true, not_false}
 use Rattle.laws.specs.Runs.{drop_two}
 use Rattle.text_words.specs.Text.{is_blank}
 use Rattle.text_lists.proofs.HexRuns.{two_short, two_here}
-use borrow.Author.Rules.{rules}
 use Rattle.text_lists.proofs.two_blanks.Goals as goal
 
 pub returns-then-text-lt2 : goal.returns-then-text-lt2

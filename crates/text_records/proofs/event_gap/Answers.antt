@@ -1,7 +1,6 @@
 -- In the head, after the byte behind it, or by the kind.
 use borrow.Author.Tests.{eq-eqb, ne_eqb}
 use Rattle.text_records.specs.Fields.{event_gap}
-use borrow.Author.Rules.{rules}
 use Rattle.text_records.proofs.event_gap.Goals as goal
 
 pub returns-then-head_gap : goal.returns-then-head_gap

@@ -1,5 +1,4 @@
 -- In an order, or in an event.
-use borrow.Author.Rules.{rules}
 use Rattle.text_records.proofs.gap.Goals as goal
 
 pub returns-then-order : goal.returns-then-order

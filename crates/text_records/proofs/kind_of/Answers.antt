@@ -1,7 +1,6 @@
 -- The third byte, or none.
 use mathlib.Core.Path.{sym}
 use lib.ListN.{get_or-eq_default}
-use borrow.Author.Rules.{rules}
 use Rattle.text_records.proofs.kind_of.Goals as goal
 
 pub returns-then-bytes-le-KIND : goal.returns-then-bytes-le-KIND

@@ -1,5 +1,4 @@
 -- Blank, block, dot and number, one behind the other.
-use borrow.Author.Rules.{rules}
 use Rattle.text_out.specs.Putting.{puts_append}
 use Rattle.text_out.specs.Spelling.{hex_of}
 use Rattle.text_records.specs.Fields.{pair_word}

@@ -1,10 +1,9 @@
 -- The pairs from `at` on are left to put.
-use Prim.Native.Nat.{◌-◌, ◌≤◌, ◌+◌}
+use Prim.Native.Nat.{◌+◌}
 use native.Mathlib.Omega.{arith}
-use lib.ListN.{length, drop, get_or}
-use borrow.Author.Rules.{rules}
-use Rattle.text_out.specs.Putting.{Owes, owes_start, owes_on, owes_end}
-use Rattle.text_records.specs.Fields.{pair_word, pair_words}
+use lib.ListN.{get_or}
+use Rattle.text_out.specs.Putting.{owes_start, owes_on, owes_end}
+use Rattle.text_records.specs.Fields.{pair_word}
 use Rattle.text_records.proofs.PairWords.{pairs_on, pairs_end}
 use Rattle.text_records.proofs.pairs.Goals as goal
 

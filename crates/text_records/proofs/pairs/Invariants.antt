@@ -1,11 +1,8 @@
 -- The pairs from `at` on are left to put.
-use Prim.Native.Nat.{◌-◌, ◌≤◌, ◌+◌}
-use native.Mathlib.Omega.{arith}
-use lib.ListN.{length, drop, get_or}
-use borrow.Author.Rules.{rules}
-use Rattle.text_out.specs.Putting.{Owes, owes_start, owes_on, owes_end}
-use Rattle.text_records.specs.Fields.{pair_word, pair_words}
-use Rattle.text_records.proofs.PairWords.{pairs_on, pairs_end}
+use Prim.Native.Nat.{◌-◌, ◌≤◌}
+use lib.ListN.{length, drop}
+use Rattle.text_out.specs.Putting.{Owes}
+use Rattle.text_records.specs.Fields.{pair_words}
 use Rattle.text_records.proofs.pairs.Given as goal
 
 abbrev pub invariant-loop-at : goal.invariant-loop-at

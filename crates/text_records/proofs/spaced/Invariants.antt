@@ -1,11 +1,8 @@
 -- The bytes from `i` on are left to put.
-use Prim.Native.Nat.{ℕ, ◌-◌}
-use mathlib.Core.Path.{◌∙◌, ap}
+use Prim.Native.Nat.{◌-◌}
 use lib.ListN.{length, drop, get_or}
-use Rattle.text_out.specs.Putting.{Owes, owes_start, owes_on, owes_end}
-use Rattle.text_records.specs.Fields.{gap_of, spaced_byte, spaced_from, spaced_of}
-use Rattle.text_records.proofs.Spacing.{spaced_on, spaced_end}
-use borrow.Author.Rules.{rules}
+use Rattle.text_out.specs.Putting.{Owes}
+use Rattle.text_records.specs.Fields.{gap_of, spaced_from, spaced_of}
 use Rattle.text_records.proofs.spaced.Given as goal
 
 abbrev pub invariant-loop-i : goal.invariant-loop-i

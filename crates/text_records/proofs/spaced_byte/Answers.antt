@@ -1,6 +1,5 @@
 -- A blank and the digits, or the digits alone.
 use Rattle.text_out.specs.Putting.{puts_append}
-use borrow.Author.Rules.{rules}
 use Rattle.text_records.proofs.spaced_byte.Goals as goal
 
 pub returns-then-blank : goal.returns-then-blank

@@ -1,14 +1,13 @@
 -- The characters counted, and those of the bytes from `i` on, make the whole.
-use Prim.Native.Nat.{ℕ, ◌+◌, ◌-◌, ◌≤◌}
+use Prim.Native.Nat.{ℕ, ◌-◌}
 use mathlib.Core.Path.{◌≡◌, sym, ◌∙◌, ap}
 use native.Mathlib.Omega.{arith}
 use borrow.Author.Tests.{lt-ltb}
 use lib.Dec.{ltb}
-use lib.ListN.{length, drop, get_or}
+use lib.ListN.{length, get_or}
 use Rattle.text_in.specs.Lines.{max_line}
-use Rattle.text_records.specs.Fields.{gap_of, spaced_from, spaced_of}
+use Rattle.text_records.specs.Fields.{gap_of, spaced_of}
 use Rattle.text_records.proofs.Spacing.{spaced_end, width_on}
-use borrow.Author.Rules.{rules}
 use Rattle.text_records.proofs.too_wide.Goals as goal
 
 pub loop-i-init : goal.loop-i-init

@@ -1,14 +1,9 @@
 -- The characters counted, and those of the bytes from `i` on, make the whole.
-use Prim.Native.Nat.{ℕ, ◌+◌, ◌-◌, ◌≤◌}
-use mathlib.Core.Path.{◌≡◌, sym, ◌∙◌, ap}
-use native.Mathlib.Omega.{arith}
-use borrow.Author.Tests.{lt-ltb}
-use lib.Dec.{ltb}
+use Prim.Native.Nat.{◌+◌, ◌-◌, ◌≤◌}
+use mathlib.Core.Path.{◌≡◌}
 use lib.ListN.{length, drop, get_or}
 use Rattle.text_in.specs.Lines.{max_line}
 use Rattle.text_records.specs.Fields.{gap_of, spaced_from, spaced_of}
-use Rattle.text_records.proofs.Spacing.{spaced_end, width_on}
-use borrow.Author.Rules.{rules}
 use Rattle.text_records.proofs.too_wide.Given as goal
 
 abbrev pub invariant-loop-i : goal.invariant-loop-i

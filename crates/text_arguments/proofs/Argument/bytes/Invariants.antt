@@ -1,14 +1,7 @@
 -- The groups that are left are still to be stored, and the reason is among them.
 use Prim.Native.Nat.{◌-◌}
-use mathlib.Core.Path.{sym, ◌∙◌}
 use lib.ListN.{length}
-use Rattle.laws.specs.Buffers.{owes_length}
-use Rattle.text_arguments.specs.Reading.{bytes_at}
-use Rattle.text_arguments.proofs.Taking.{behind_wrong}
-use Rattle.text_arguments.proofs.Groups.{Left, left_start, left_on, left_done, left_refused, stored_none}
-use Rattle.text_arguments.proofs.Words.{word_some}
-use borrow.Author.Rules.{rules}
-use native.Mathlib.Omega.{arith}
+use Rattle.text_arguments.proofs.Groups.{Left}
 use Rattle.text_arguments.proofs.Argument.bytes.Given as goal
 
 abbrev pub invariant-loop-start : goal.invariant-loop-start

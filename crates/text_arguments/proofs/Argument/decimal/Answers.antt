@@ -2,7 +2,6 @@
 use mathlib.Core.Path.{sym, ◌∙◌}
 use Rattle.text_arguments.specs.Reading.{decimal_at}
 use Rattle.text_arguments.proofs.Taking.{behind_wrong, missing, decimal_read}
-use borrow.Author.Rules.{rules}
 use Rattle.text_arguments.proofs.Argument.decimal.Goals as goal
 
 pub returns-then-self-ne-UNDERSTOOD : goal.returns-then-self-ne-UNDERSTOOD

@@ -2,7 +2,6 @@
 use mathlib.Core.Path.{sym, ◌∙◌}
 use Rattle.text_arguments.specs.Reading.{end_at}
 use Rattle.text_arguments.proofs.Taking.{behind_wrong, end_right, end_too_many}
-use borrow.Author.Rules.{rules}
 use Rattle.text_arguments.proofs.Argument.end.Goals as goal
 
 pub returns-then-self-ne-UNDERSTOOD : goal.returns-then-self-ne-UNDERSTOOD

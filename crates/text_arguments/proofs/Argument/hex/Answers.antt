@@ -1,9 +1,7 @@
 -- A wrong argument stays; a word is missing, is not hexadecimal, has another length, or is the number.
 use mathlib.Core.Path.{sym, ◌∙◌}
-use Rattle.laws.specs.Bools.{not_true, not_false}
 use Rattle.text_arguments.specs.Reading.{hex_at}
 use Rattle.text_arguments.proofs.Taking.{behind_wrong, missing, hex_none, hex_wrong, hex_right}
-use borrow.Author.Rules.{rules}
 use Rattle.text_arguments.proofs.Argument.hex.Goals as goal
 
 pub returns-then-self-ne-UNDERSTOOD : goal.returns-then-self-ne-UNDERSTOOD

@@ -1,6 +1,5 @@
 -- `count` answers what the rules count: one case for each return.
 use mathlib.Core.Path.{sym, ◌∙◌}
-use borrow.Author.Rules.{rules}
 use Rattle.rules.specs.Telegram.{count}
 use Rattle.tel_head.proofs.Legal.{legal, range, short}
 use Rattle.tel_count.proofs.count.Goals as goal

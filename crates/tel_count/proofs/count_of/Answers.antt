@@ -1,6 +1,5 @@
 -- `count_of` is the rules' count.
 use borrow.Author.Tests.{lt-leb, le-leb}
-use borrow.Author.Rules.{rules}
 use Rattle.rules.specs.Telegram.{count_of}
 use Rattle.tel_count.proofs.count_of.Goals as goal
 

@@ -1,6 +1,5 @@
 -- `cut` refuses 10 and 11, and leaves the rest to the two kinds of message.
 use mathlib.Core.Path.{sym, ◌∙◌}
-use borrow.Author.Rules.{rules}
 use Rattle.tel_head.proofs.Legal.{legal, short}
 use Rattle.tel_cut.proofs.Cutting.{at_10, at_11, refused}
 use Rattle.tel_cut.proofs.cut.Goals as goal

@@ -3,7 +3,6 @@ use Prim.Native.Nat.{ℕ, ◌+◌, ◌-◌, ◌*◌}
 use mathlib.Core.Path.{◌≡◌, ap}
 use native.Mathlib.Omega.{arith}
 use native.Mathlib.Nat.{mul-le-mul}
-use borrow.Author.Rules.{rules}
 use lib.ListN.{take, drop}
 use Rattle.rules.specs.House.{max_size, max_payload}
 use Rattle.rules.proofs.RoundTrip.{size_range}

@@ -1,7 +1,6 @@
 -- `cut_single` writes the only telegram, or refuses 12 or 13.
 use mathlib.Core.Path.{sym}
 use native.Mathlib.Omega.{arith}
-use borrow.Author.Rules.{rules}
 use Rattle.rules.proofs.RoundTrip.{size_range, telegram_length}
 use Rattle.tel_cut.proofs.Cutting.{single_12, single_13, single_cut, refused, written, stored_single}
 use Rattle.tel_cut.proofs.cut_single.Goals as goal

@@ -2,7 +2,6 @@
 use Prim.Native.Nat.{◌-◌}
 use mathlib.Core.Path.{◌∙◌}
 use native.Mathlib.Omega.{arith}
-use borrow.Author.Rules.{rules}
 use lib.ListN.{length-take, length-drop, length-set}
 use Rattle.tel_cut.proofs.Cutting.{stored_part}
 use Rattle.tel_cut.proofs.write_part.Goals as goal

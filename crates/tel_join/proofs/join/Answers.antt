@@ -2,7 +2,6 @@
 use mathlib.Core.Path.{refl, sym, ◌∙◌}
 use native.Mathlib.Omega.{arith}
 use borrow.Author.Tests.{lt-ltb, le-ltb, lt-leb, le-leb}
-use borrow.Author.Rules.{rules}
 use Rattle.rules.specs.Telegram.{join}
 use Rattle.tel_head.proofs.Legal.{legal, range}
 use Rattle.tel_join_state.proofs.Joining.{along}

@@ -1,7 +1,6 @@
 -- `take` goes by the TelID as the rules do.
 use mathlib.Core.Path.{refl}
 use native.Mathlib.Omega.{arith}
-use borrow.Author.Rules.{rules}
 use Rattle.tel_join.proofs.Taking.{takes_single, takes_first, takes_part}
 use Rattle.tel_join.proofs.take.Goals as goal
 

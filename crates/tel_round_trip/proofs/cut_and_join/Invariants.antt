@@ -1,15 +1,9 @@
 -- The message comes back: at every turn the telegrams that are left, joined from here on, give the whole message.
-use Prim.Native.Nat.{ℕ, ◌-◌, ◌≤◌}
-use mathlib.Core.Path.{◌≡◌, refl, sym, ◌∙◌, subst}
-use native.Mathlib.Omega.{arith}
-use borrow.Author.Rules.{rules}
-use borrow.Author.Tests.{lt-ltb, le-ltb}
+use Prim.Native.Nat.{◌-◌, ◌≤◌}
+use mathlib.Core.Path.{◌≡◌}
 use lib.ListN.{length}
 use Rattle.tel_join_state.specs.Answers.{joining_of}
-use Rattle.tel_round_trip.specs.Back.{back}
-use Rattle.tel_head.proofs.Legal.{legal, range, short}
-use Rattle.tel_cut.proofs.Cutting.{at_least_one}
-use Rattle.tel_round_trip.proofs.Returning.{counted, Owed, owed_start, owed_on, owed_end}
+use Rattle.tel_round_trip.proofs.Returning.{Owed}
 use Rattle.tel_round_trip.proofs.cut_and_join.Given as goal
 
 abbrev pub invariant-loop-number : goal.invariant-loop-number

@@ -1,7 +1,6 @@
 -- `begin` is the rules' way of TelID 1.
 use mathlib.Core.Path.{refl}
 use borrow.Author.Tests.{eq-eqb, ne_eqb}
-use borrow.Author.Rules.{rules}
 use Rattle.rules.specs.Telegram.{begins}
 use Rattle.tel_join_state.specs.Answers.{handed_back}
 use Rattle.tel_join_state.proofs.Joining.{drops}

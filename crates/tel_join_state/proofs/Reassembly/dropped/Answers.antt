@@ -1,6 +1,5 @@
 -- A dropped message leaves a fresh state.
 use mathlib.Core.Path.{ap, ◌∙◌}
-use borrow.Author.Rules.{rules}
 use Rattle.tel_join_state.specs.Answers.{joining_of}
 use Rattle.tel_join_state.proofs.Reassembly.dropped.Goals as goal
 

@@ -1,7 +1,6 @@
 -- `go_on` is the rules' way of TelID 2 and 3: one case for each return.
 use Prim.Native.Nat.{◌+◌}
 use borrow.Author.Tests.{lt-leb, eq-eqb, ne_eqb}
-use borrow.Author.Rules.{rules}
 use lib.Bits.{and_mask}
 use Rattle.rules.specs.Telegram.{continues}
 use Rattle.tel_join_state.specs.Answers.{joining_of}

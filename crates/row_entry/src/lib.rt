@@ -3,7 +3,8 @@
 
 ghost use Rattle.std.specs.Prelude.{◌≡◌, [], ◌≤◌, min};
 ghost use Rattle.rules.specs.House.{max_units};
-ghost use Rattle.rules.specs.Picture.{Row, WAITING, is_open, is_silent, is_ignored, keeps, keeps_other, bars, pairs_in, new_row, no_row};
+ghost use Rattle.rules.specs.Picture as picture;
+ghost use Rattle.rules.specs.Picture.{Row, is_open, is_silent, is_ignored, keeps, keeps_other, bars, pairs_in, new_row, no_row};
 ghost use Rattle.rules.specs.Renumber.{place_of, tries_of};
 ghost use Rattle.rules.specs.Step.{silenced, asked, ignored, counted, at_limit, emptied};
 ghost use Rattle.wire_pairs.specs.View.{pairs_of};
@@ -87,7 +88,7 @@ impl NodeEntry {
 
     // An asked entry with these counts.
     fn waiting(bad: u8, silences: u8) -> Self
-        ensures { (◌≡◌ {A = Row} (row_of result) (record { status = WAITING; bad = bad; silences = silences })) × Marked result }
+        ensures { (◌≡◌ {A = Row} (row_of result) (record { status = picture.WAITING; bad = bad; silences = silences })) × Marked result }
     {
         NodeEntry::bare(WAITING, LogicalNodeAddress(0), bad, silences)
     }

@@ -35,7 +35,7 @@ module _ (c : ℕ) (small : c ≤ max_pass) where
   read_each : (u : Slave) (os : List Order) → lived u (map (λ (b : List ℕ). reads b min_answer_room) (map (encode c) os)) ≡ heard_all c u os
   unfolding lived heard_all
   read_each u [] = refl
-  read_each u (o ∷ os) = ap (λ (v : Slave). lived v (map (λ (b : List ℕ). reads b min_answer_room) (map (encode c) os))) (read_one u o) ∙ read_each _ os
+  read_each u (o ∷ os) = ap (λ (v : Slave). lived v (map (λ (b : List ℕ). reads b min_answer_room) (map (encode c) os))) (read_one u o) ∙ read_each (heard u (sent_with c (narrowed o))) os
 
   -- the bytes of an event, read as they were written
   pub read_all : (u : Slave) (os : List Order) → lived u (readings (encode_all c os)) ≡ heard_all c u os
@@ -46,7 +46,7 @@ module _ (c : ℕ) (small : c ≤ max_pass) where
 pub heard_pass : (c : ℕ) (u : Slave) (os : List Order) → u.pass ≤ c → (heard_all c u os).pass ≤ c
 unfolding heard_all heard sent_with
 heard_pass c u [] h = h
-heard_pass c u (o ∷ os) h = heard_pass c _ os (omega arith)
+heard_pass c u (o ∷ os) h = heard_pass c (heard u (sent_with c (narrowed o))) os (omega arith)
 
 -- what holds of all answers goes on holding: reading only drops
 heard_one : {P : Known → Type 0} (u : Slave) (s : Sent) → All P u.known → All P (heard u s).known
@@ -56,7 +56,7 @@ heard_one u s h = known_all u.pass u.known s h
 pub heard_keeps : {P : Known → Type 0} (c : ℕ) (u : Slave) (os : List Order) → All P u.known → All P (heard_all c u os).known
 unfolding heard_all
 heard_keeps c u [] h = h
-heard_keeps c u (o ∷ os) h = heard_keeps c _ os (heard_one u (sent_with c (narrowed o)) h)
+heard_keeps c u (o ∷ os) h = heard_keeps c (heard u (sent_with c (narrowed o))) os (heard_one u (sent_with c (narrowed o)) h)
 
 -- what an order names does not depend on the address that a SET carries
 named_narrowed : (o : Order) → named (narrowed o) ≡ named o

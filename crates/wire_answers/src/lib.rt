@@ -3,7 +3,8 @@
 
 ghost use Rattle.std.specs.Prelude.{◌≤◌, [], ◌∷◌, ◌++◌, length};
 ghost use Rattle.laws.specs.Buffers.{Wrote};
-ghost use Rattle.rules.specs.Event.{ANSWER, two, header, encode_event};
+ghost use Rattle.rules.specs.Event as event;
+ghost use Rattle.rules.specs.Event.{two, header, encode_event};
 ghost use Rattle.wire_pairs.specs.View.{pairs_of};
 
 use wire_address::{LogicalNodeAddress, NodePosition};
@@ -39,8 +40,8 @@ pub fn write_answer(
     address: LogicalNodeAddress,
     pairs: Pairs,
 ) -> usize
-    requires { length (encode_event (ANSWER pass position.0 address.0 (pairs_of pairs))) ≤ length out.old }
-    ensures { Wrote out.old 0 (encode_event (ANSWER pass position.0 address.0 (pairs_of pairs))) result out.new }
+    requires { length (encode_event (event.ANSWER pass position.0 address.0 (pairs_of pairs))) ≤ length out.old }
+    ensures { Wrote out.old 0 (encode_event (event.ANSWER pass position.0 address.0 (pairs_of pairs))) result out.new }
 {
     let count = pairs.len();
     let blocks = pairs.blocks;

@@ -4,7 +4,8 @@
 ghost use Rattle.std.specs.Prelude.{◌≡◌, ◌&&◌, [], ◌+◌, ◌*◌, ◌≤◌, eqb, length, drop};
 ghost use Rattle.laws.specs.Lists.{any};
 ghost use Rattle.rules.specs.House.{max_pairs};
-ghost use Rattle.rules.specs.Event.{SHUTDOWN, DELAY, check, read_pairs, bad_block, good_nodes, decode_plain, decode_answer, decode};
+ghost use Rattle.rules.specs.Event as event;
+ghost use Rattle.rules.specs.Event.{check, read_pairs, bad_block, good_nodes, decode_plain, decode_answer, decode};
 ghost use Rattle.wire_pairs.specs.View.{pair_of, pairs_of};
 ghost use Rattle.wire_events.specs.View.{event_of};
 
@@ -115,7 +116,7 @@ fn scan_fields_fit(pass: u32, x: u8) -> bool
 
 // SHUTDOWN: neither its pass nor its x is used.
 fn decode_shutdown(pass: u32, x: u8) -> EventRecord
-    ensures { event_of result.event (pairs_of result.pairs) ≡ check (eqb pass 0 && eqb x 0) SHUTDOWN }
+    ensures { event_of result.event (pairs_of result.pairs) ≡ check (eqb pass 0 && eqb x 0) event.SHUTDOWN }
 {
     if pass != 0 {
         return plain(Event::Malformed);
@@ -128,7 +129,7 @@ fn decode_shutdown(pass: u32, x: u8) -> EventRecord
 
 // DELAY: its x is not used.
 fn decode_delay(pass: u32, x: u8) -> EventRecord
-    ensures { event_of result.event (pairs_of result.pairs) ≡ check (eqb x 0) (DELAY pass) }
+    ensures { event_of result.event (pairs_of result.pairs) ≡ check (eqb x 0) (event.DELAY pass) }
 {
     if x != 0 {
         return plain(Event::Malformed);

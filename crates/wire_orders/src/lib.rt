@@ -5,7 +5,8 @@ ghost use Rattle.std.specs.Prelude.{◌≡◌, ◌+◌, ◌*◌, ◌≤◌, ◌<
 ghost use Rattle.laws.specs.Buffers.{Wrote};
 ghost use Rattle.laws.specs.Lists.{collect};
 ghost use Rattle.rules.specs.Event.{pair_bytes};
-ghost use Rattle.rules.specs.Order.{ASK, SET, kind_of, encode, encode_all};
+ghost use Rattle.rules.specs.Order as order;
+ghost use Rattle.rules.specs.Order.{kind_of, encode, encode_all};
 ghost use Rattle.rules.specs.Ending.{tell};
 ghost use Rattle.wire_pairs.specs.View.{pairs_from, pairs_of};
 ghost use Rattle.wire_orders.specs.View.{notice_of, delta_of, head_bytes, head_size, pair_size, list_size, part};
@@ -111,8 +112,8 @@ pub fn write_notice(out: &mut [u8], at: usize, pass: u32, notice: Notice) -> usi
 
 // ASK: a question goes by position.
 pub fn write_ask(out: &mut [u8], at: usize, pass: u32, position: NodePosition) -> usize
-    requires { at + length (encode pass (ASK position.0)) ≤ length out.old }
-    ensures { Wrote out.old at (encode pass (ASK position.0)) result out.new }
+    requires { at + length (encode pass (order.ASK position.0)) ≤ length out.old }
+    ensures { Wrote out.old at (encode pass (order.ASK position.0)) result out.new }
 {
     let body = write_head(out, at, ASK, pass);
     out[body] = position.0;
@@ -130,8 +131,8 @@ pub fn write_set(
     old: u8,
     new: u8,
 ) -> usize
-    requires { at + length (encode pass (SET position.0 address.0 block old new)) ≤ length out.old }
-    ensures { Wrote out.old at (encode pass (SET position.0 address.0 block old new)) result out.new }
+    requires { at + length (encode pass (order.SET position.0 address.0 block old new)) ≤ length out.old }
+    ensures { Wrote out.old at (encode pass (order.SET position.0 address.0 block old new)) result out.new }
 {
     let body = write_head(out, at, SET, pass);
     out[body] = position.0;

@@ -25,7 +25,7 @@ returns-then-bytes-ne-MARK_SECOND c =
 pub returns-then-kind-eq-ANSWER : goal.returns-then-kind-eq-ANSWER
 unfolding decode
 returns-then-kind-eq-ANSWER c =
-    simp (le-leb _ _ c.if-bytes-lt-HEAD.false, eq-eqb _ _ c.if-bytes-ne-MARK_FIRST.false, eq-eqb _ _ c.if-bytes-ne-MARK_SECOND.false, eq-eqb _ _ c.if-kind-eq-ANSWER.true) c.decode_answer?decode_answer_lem.ensures
+    simp (le-leb _ _ c.if-bytes-lt-HEAD.false, eq-eqb _ _ c.if-bytes-ne-MARK_FIRST.false, eq-eqb _ _ c.if-bytes-ne-MARK_SECOND.false, eq-eqb _ _ c.if-kind-eq-ANSWER.true) c.decode_answer.ensures
 
 pub returns-then-bytes-ne-HEAD : goal.returns-then-bytes-ne-HEAD
 unfolding decode

@@ -6,8 +6,8 @@ use Rattle.wire_orders.proofs.delta_kind.Goals as goal
 
 pub returns-in-New : goal.returns-in-New
 unfolding kind_of
-returns-in-New c = rw c.enum_told-1.given.1 refl
+returns-in-New c = rw c.in-New.is refl
 
 pub returns-in-Invalid : goal.returns-in-Invalid
 unfolding kind_of
-returns-in-Invalid c = rw c.enum_told-in-Invalid-1.given.1 refl
+returns-in-Invalid c = rw c.in-Invalid.is refl

@@ -6,16 +6,16 @@ use Rattle.wire_orders.proofs.notice_kind.Goals as goal
 
 pub returns-in-Ok : goal.returns-in-Ok
 unfolding kind_of
-returns-in-Ok c = rw c.enum_told-1.given.1 refl
+returns-in-Ok c = rw c.in-Ok.is refl
 
 pub returns-in-NotOk : goal.returns-in-NotOk
 unfolding kind_of
-returns-in-NotOk c = rw c.enum_told-in-NotOk-1.given.1 refl
+returns-in-NotOk c = rw c.in-NotOk.is refl
 
 pub returns-in-WaitShort : goal.returns-in-WaitShort
 unfolding kind_of
-returns-in-WaitShort c = rw c.enum_told-in-WaitShort-1.given.1 refl
+returns-in-WaitShort c = rw c.in-WaitShort.is refl
 
 pub returns-in-WaitLong : goal.returns-in-WaitLong
 unfolding kind_of
-returns-in-WaitLong c = rw c.enum_told-in-WaitLong-1.given.1 refl
+returns-in-WaitLong c = rw c.in-WaitLong.is refl

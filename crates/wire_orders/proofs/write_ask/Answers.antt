@@ -13,7 +13,7 @@ write_head-body-requires c =
 pub bounds-out-body : goal.bounds-out-body
 unfolding body_of
 bounds-out-body c =
-    omega (arith, order_length_lem c.args.pass (ASK c.args.position.0), head_end c.args.pass c.write_head-body.ensures, c.write_head-body.auto.0)
+    omega (arith, order_length_lem c.args.pass (ASK c.args.position.0), head_end c.args.pass c.write_head-body.ensures, c.write_head-body.auto.out)
 
 pub overflow_add-result : goal.overflow_add-result
 unfolding body_of

@@ -30,7 +30,7 @@ loop-from-preserved c =
     let w = c.loop-from.invariant in
     let held = c.least-held.ensures ∙ ap (min a.count) c.least.ensures in
     let n = c.least-n.ensures in
-    (omega arith, c.write_part-next.auto.0 ∙ w.1, part_turn a.pass a.delta a.size a.blocks.now a.numbers.now a.count c.least-held.result c.loop-from.from c.least-n.result c.requires.0 held (omega arith) n c.write_part-next.ensures w.2)
+    (omega arith, c.write_part-next.auto.out ∙ w.1, part_turn a.pass a.delta a.size a.blocks.now a.numbers.now a.count c.least-held.result c.loop-from.from c.least-n.result c.requires.0 held (omega arith) n c.write_part-next.ensures w.2)
 
 pub returns : goal.returns
 returns c =

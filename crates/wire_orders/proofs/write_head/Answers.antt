@@ -17,7 +17,7 @@ write4-requires c = simp length-set (omega arith)
 
 pub shape_of-out : goal.shape_of-out
 shape_of-out c =
-    c.write4.auto.0 ∙ simp length-set
+    c.write4.auto.buffer ∙ simp length-set
 
 pub returns : goal.returns
 returns c =

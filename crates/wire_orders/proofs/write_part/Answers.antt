@@ -9,7 +9,7 @@ use Rattle.wire_orders.proofs.write_part.Goals as goal
 
 pub bounds-out-body : goal.bounds-out-body
 bounds-out-body c =
-    omega (arith, head_end c.args.pass c.write_head-body.ensures, c.write_head-body.auto.0)
+    omega (arith, head_end c.args.pass c.write_head-body.ensures, c.write_head-body.auto.out)
 
 pub overflow_add-body : goal.overflow_add-body
 overflow_add-body c =
@@ -17,11 +17,11 @@ overflow_add-body c =
 
 pub write_pairs-requires : goal.write_pairs-requires
 write_pairs-requires c =
-    (omega arith, simp length-set (omega (arith, head_end c.args.pass c.write_head-body.ensures, c.write_head-body.auto.0)))
+    (omega arith, simp length-set (omega (arith, head_end c.args.pass c.write_head-body.ensures, c.write_head-body.auto.out)))
 
 pub shape_of-out : goal.shape_of-out
 shape_of-out c =
-    simp length-set at c.write_pairs.auto.0 ∙ c.write_head-body.auto.0
+    simp length-set at c.write_pairs.auto.out ∙ c.write_head-body.auto.out
 
 pub returns : goal.returns
 returns c =

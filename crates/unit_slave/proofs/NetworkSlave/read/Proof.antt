@@ -3,7 +3,7 @@ use Prim.Native.Nat.{ℕ}
 use Rattle.laws.specs.Bools.{cond_false}
 use Rattle.rules.specs.Event.{read_pairs}
 use Rattle.rules.specs.Picture.{Pair}
-use Rattle.rules.specs.Order.{INVALID, NEW, NOTOK, OK, Order, WAIT-LONG, wait_short}
+use Rattle.rules.specs.Order.{INVALID, NEW, NOTOK, OK, Order, WAIT_LONG, WAIT_SHORT}
 use Rattle.rules.specs.Run.{sent_with}
 use Rattle.rules_unit.specs.Reading.{sent_of}
 use Rattle.rules_unit.specs.Slave.{Reading, is_answered, named, on_order, read, says_not_ok}
@@ -117,13 +117,13 @@ returns-9 : tie.Need-returns-9
 unfolding named says_not_ok is_answered
 returns-9 c =
     let at_enum = c.before in
-    told_at at_enum.before.before wait_short at_enum.enum-told6.given.1 refl refl refl refl c.told3.ensures
+    told_at at_enum.before.before WAIT_SHORT at_enum.enum-told6.given.1 refl refl refl refl c.told3.ensures
 
 returns-10 : tie.Need-returns-10
 unfolding named says_not_ok is_answered
 returns-10 c =
     let at_enum = c.before in
-    told_at at_enum.before.before WAIT-LONG at_enum.enum-told7.given.1 refl refl refl refl c.told4.ensures
+    told_at at_enum.before.before WAIT_LONG at_enum.enum-told7.given.1 refl refl refl refl c.told4.ensures
 
 pub read_spec : {M : Type 1} → statement M
 read_spec =

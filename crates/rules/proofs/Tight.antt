@@ -4,7 +4,7 @@ use Rattle.rules.specs.Picture.{Off, NotOk, Ok}
 use Rattle.rules.specs.Evaluate.{play_picture}
 use Rattle.rules.specs.Claims.{if_taken, accepted, is_reply, count_reply, replies_in, picture_at, replies_between, bound}
 use Rattle.rules.specs.Table.{hex}
-use Rattle.rules_bounds.specs.Tight.{stubbornly, out_of_range, lies, at_start, at_change, at_change_in_ok, LongestWay}
+use Rattle.rules.specs.Tight.{stubbornly, out_of_range, lies, at_start, at_change, at_change_in_ok, LongestWay}
 
 pub longest_at_start : LongestWay Off NotOk at_start 1
 unfolding play_picture if_taken accepted is_reply count_reply replies_in picture_at replies_between bound hex stubbornly out_of_range lies at_start

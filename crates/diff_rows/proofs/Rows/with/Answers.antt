@@ -27,4 +27,4 @@ pub returns : goal.returns
 returns c =
     let a = c.args in
     let b = c.is_bad.ensures.1 c.if-is_bad.false in
-    seated a.t1 a.row (sym c.is_bad.ensures.0 ∙ c.if-is_bad.false) b.0 b.2 (omega (arith, c.if-position-self.false))
+    seated a.self a.row (sym c.is_bad.ensures.0 ∙ c.if-is_bad.false) b.0 b.2 (omega (arith, c.if-position-self.false))

@@ -22,12 +22,12 @@ unfolding pairs_of
 write_line-end-requires c =
     let a = c.args in
     let w = c.loop-i.invariant in
-    let bs = a.t5.blocks in
-    let ns = a.t5.numbers in
+    let bs = a.pairs.blocks in
+    let ns = a.pairs.numbers in
     let i = c.loop-i.i in
-    let turn = lines_on a.kind a.position.0 (get_or bs i 0) (get_or ns i 0) (pairs_here _ bs ns w.1 w.2 a.t5.count i (omega (arith, c.len-n.ensures, c.loop-i-test.true))) in
+    let turn = lines_on a.kind a.position.0 (get_or bs i 0) (get_or ns i 0) (pairs_here _ bs ns w.1 w.2 a.pairs.count i (omega (arith, c.len-n.ensures, c.loop-i-test.true))) in
     let l = ap length turn in
-    let m = length-append (bytes_of a.kind a.position.0 0 (get_or bs i 0) (get_or ns i 0)) (collect (pair_line a.kind a.position.0) (drop (i + 1) (pairs_of a.t5))) in
+    let m = length-append (bytes_of a.kind a.position.0 0 (get_or bs i 0) (get_or ns i 0)) (collect (pair_line a.kind a.position.0) (drop (i + 1) (pairs_of a.pairs))) in
     let n = line_length a.kind a.position.0 0 (get_or bs i 0) (get_or ns i 0) in
     omega (arith, w.0, w.3.place)
 
@@ -36,10 +36,10 @@ unfolding pairs_of
 loop-i-preserved c =
     let a = c.args in
     let w = c.loop-i.invariant in
-    let bs = a.t5.blocks in
-    let ns = a.t5.numbers in
+    let bs = a.pairs.blocks in
+    let ns = a.pairs.numbers in
     let i = c.loop-i.i in
-    let turn = lines_on a.kind a.position.0 (get_or bs i 0) (get_or ns i 0) (pairs_here _ bs ns w.1 w.2 a.t5.count i (omega (arith, c.len-n.ensures, c.loop-i-test.true))) in
+    let turn = lines_on a.kind a.position.0 (get_or bs i 0) (get_or ns i 0) (pairs_here _ bs ns w.1 w.2 a.pairs.count i (omega (arith, c.len-n.ensures, c.loop-i-test.true))) in
     (c.write_line-end.auto.out ∙ w.0, w.1, w.2, owes_on _ turn c.write_line-end.ensures w.3)
 
 pub returns : goal.returns
@@ -47,4 +47,4 @@ unfolding pairs_of
 returns c =
     let a = c.args in
     let w = c.loop-i.invariant in
-    owes_end (lines_end a.kind a.position.0 (pairs_past _ a.t5.blocks a.t5.numbers w.1 w.2 a.t5.count c.loop-i.i (omega (arith, c.len-n.ensures, c.loop-i-test.false)))) w.3
+    owes_end (lines_end a.kind a.position.0 (pairs_past _ a.pairs.blocks a.pairs.numbers w.1 w.2 a.pairs.count c.loop-i.i (omega (arith, c.len-n.ensures, c.loop-i-test.false)))) w.3

@@ -23,4 +23,5 @@ pub mod Aimed
 pub mod Barring
 pub mod RoundTrip
 pub mod Edges
+pub mod Tight
 pub mod Promises

@@ -24,6 +24,7 @@ use Rattle.rules.proofs.Values.{values}
 use Rattle.rules.proofs.Numbers.{numbers}
 use Rattle.rules.proofs.RoundTrip.{round_trip, cuts, lengths}
 use Rattle.rules.proofs.Edges.{edges_hold, cases_hold, corners_hold, ring_changes_hold}
+use Rattle.rules.proofs.Tight.{longest_at_start, longest_at_change, longest_at_change_in_ok}
 
 legal : (size : ℕ) → min_size ≤ size → size ≤ max_size → legal_size size ≡ true
 unfolding legal_size
@@ -56,4 +57,7 @@ promises =
       cases = cases_hold;
       corners = corners_hold;
       ring_changes = ring_changes_hold;
+      longest_at_start = longest_at_start;
+      longest_at_change = longest_at_change;
+      longest_at_change_in_ok = longest_at_change_in_ok;
     }

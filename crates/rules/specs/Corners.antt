@@ -1,9 +1,11 @@
 -- Corners of paper 01: where one rule meets another, or stops; a third table. An independent model of the paper gave the results.
-use Rattle.std.specs.Prelude.{ℕ, List, [], ◌∷◌, ◌++◌, true, false}
+use Rattle.std.specs.Prelude.{ℕ, ◌-◌, ◌*◌, List, [], ◌∷◌, ◌++◌, map, true, false, replicate}
+use Rattle.laws.specs.Lists.{collect, up_from}
+use Rattle.rules.specs.House.{min_room}
 use Rattle.rules.specs.Picture.{Off, Ok, Status, LISTED, SILENT, IGNORED, Row, Picture}
 use Rattle.rules.specs.Run.{Record}
-use Rattle.rules.specs.Listing.{Listed}
-use Rattle.rules.specs.Table.{hex, with_room, gives, no_orders, refusal, entry, records, records_from, listing_after, listed_after, picture_after, results, listing, listed, picture, Edge, edge}
+use Rattle.rules.specs.Listing.{Listed, found}
+use Rattle.rules.specs.Table.{hex, with_room, gives, no_orders, refusal, entry, records, records_from, listing_after, listed_after, look_up_after, picture_after, results, listing, listed, look_up, picture, Edge, edge}
 use Rattle.rules.specs.Cases.{times}
 
 -- a picture in OFF: nothing in it but pass and L
@@ -17,6 +19,17 @@ unit s bad silences = record { status = s; bad = bad; silences = silences }
 -- a listed position with its address
 abbrev pub at : (position address : ℕ) → Listed
 at x a = record { position = x; address = a }
+
+-- the ASKs of positions 1 to n in pass 1
+unfoldable pub asks_to : ℕ → List ℕ
+unfolding hex
+asks_to n = collect (λ (x : ℕ). hex 7 0x4D4F_01_00000001 ++ x ∷ []) (up_from 1 n)
+
+-- position x answers in pass 1 with an address of its own and so many pairs of block 22, the numbers ascending
+unfoldable pub announces : (position first many : ℕ) → Record
+unfolding hex
+announces x first many =
+    record { bytes = hex 7 0x4D45_04_00000001 ++ x ∷ 0x01 ∷ x ∷ many ∷ collect (λ (n : ℕ). 0x22 ∷ n ∷ []) (up_from first many); room = min_room }
 
 -- sessions that repeat records, or are looked at in more than one way
 abbrev pub silent_then_bad : List Record
@@ -107,6 +120,19 @@ former_address =
     ∷ with_room 13 0x4D45_04_00000003_03_0101_01_2201
     ∷ []
 
+abbrev pub all_numbers : List Record
+all_numbers =
+    with_room 8 0x4D45_01_00000000_15
+    ∷ map (λ (x : ℕ). announces x (16 * x - 14) 16) (up_from 1 15)
+    ++ (announces 16 242 12 ∷ announces 17 1 1 ∷ [])
+    ++ with_room 15 0x4D45_04_00000001_12_0112_02_2202_3100
+    ∷ with_room 13 0x4D45_04_00000001_13_0113_01_22FE
+    ∷ times 3 (with_room 15 0x4D45_04_00000001_12_0112_02_2202_3100 ∷ [])
+    ++ with_room 15 0x4D45_04_00000001_12_0112_02_2202_3100
+    ∷ with_room 17 0x4D45_04_00000001_14_0114_03_2203_3100_2204
+    ∷ with_room 17 0x4D45_04_00000001_14_0114_03_2203_3101_2204
+    ∷ []
+
 abbrev pub silent_then_setting : List Record
 silent_then_setting =
     with_room 8 0x4D45_01_00000000_02
@@ -162,7 +188,7 @@ silent_then_unasked =
     ∷ []
 
 unfoldable pub corners : List Edge
-unfolding hex times
+unfolding hex times asks_to announces
 corners =
     -- a fresh picture is OFF with pass 0; no delay runs, and there are no rows
     edge (picture_after 29 []) (picture (off_picture 0 29))
@@ -589,6 +615,23 @@ corners =
     ∷ []))
     ∷ edge (listing_after 12 former_address) (listing (entry 3 0x0101 0x22 0x01 ∷ []))
     ∷ edge (listed_after 12 former_address) (listed (at 3 0x0101 ∷ []))
+    -- FE is the last number offered; a pair without a free number is passed over, also after a SET, and the next bad pair has three
+    -- tries
+    ∷ edge
+    (records 12 all_numbers)
+    (results
+    (gives 160 0x4D4F_01_00000001_01_4D4F_01_00000001_02_4D4F_01_00000001_03_4D4F_01_00000001_04_4D4F_01_00000001_05_4D4F_01_00000001_06_4D4F_01_00000001_07_4D4F_01_00000001_08_4D4F_01_00000001_09_4D4F_01_00000001_0A_4D4F_01_00000001_0B_4D4F_01_00000001_0C_4D4F_01_00000001_0D_4D4F_01_00000001_0E_4D4F_01_00000001_0F_4D4F_01_00000001_10_4D4F_01_00000001_11_4D4F_01_00000001_12_4D4F_01_00000001_13_4D4F_01_00000001_14
+    ∷ replicate 15 no_orders
+    ++ replicate 2 no_orders
+    ++ gives 13 0x4D4F_02_00000001_12_0112_22_02_FE
+    ∷ no_orders
+    ∷ times 3 (gives 13 0x4D4F_02_00000001_12_0112_31_00_01 ∷ [])
+    ++ no_orders
+    ∷ gives 13 0x4D4F_02_00000001_14_0114_31_00_01
+    ∷ gives 7 0x4D4F_03_00000001
+    ∷ []))
+    ∷ edge (look_up_after 12 all_numbers 0x22 0xFE) (look_up (found 19 0x0113))
+    ∷ edge (look_up_after 12 all_numbers 0x31 0x01) (look_up (found 20 0x0114))
     -- the last pass: c ends in IGNORED for both rows, whichever of them stood at 2, and d in IGNORED; neither is refused 9
     ∷ edge
     (records_from 12 4_294_967_292

@@ -15,4 +15,5 @@ pub mod Edges
 pub mod Cases
 pub mod Corners
 pub mod RingChanges
+pub mod Tight
 pub mod Promises

@@ -1,6 +1,6 @@
 -- Everything that is promised of the rules, with all its premises: one record, proved in proofs/Promises.antt.
 use Rattle.std.specs.Prelude.{ℕ, ◌^◌, ◌<◌, ◌≤◌, ◌≡◌, List, length}
-use Rattle.rules.specs.Picture.{Pair, Picture, fresh}
+use Rattle.rules.specs.Picture.{Off, NotOk, Ok, Pair, Picture, fresh}
 use Rattle.rules.specs.Event.{Event}
 use Rattle.rules.specs.Run.{Record, after}
 use Rattle.rules.specs.Telegram.{Joining}
@@ -10,6 +10,7 @@ use Rattle.rules.specs.Edges.{edges as edge_table}
 use Rattle.rules.specs.Cases.{cases as case_table}
 use Rattle.rules.specs.Corners.{corners as corner_table}
 use Rattle.rules.specs.RingChanges.{ring_changes as ring_change_table}
+use Rattle.rules.specs.Tight.{at_start, at_change, at_change_in_ok, LongestWay}
 
 pub record Promises : Type 0 where
   -- of every list of records from a fresh picture for L; a picture for an L that is not 12 to 45 is one for 12
@@ -47,3 +48,6 @@ pub record Promises : Type 0 where
   pub cases : obtained case_table ≡ expected case_table
   pub corners : obtained corner_table ≡ expected corner_table
   pub ring_changes : obtained ring_change_table ≡ expected ring_change_table
+  pub longest_at_start : LongestWay Off NotOk at_start 1
+  pub longest_at_change : LongestWay NotOk NotOk at_change 2
+  pub longest_at_change_in_ok : LongestWay Ok Ok at_change_in_ok 3

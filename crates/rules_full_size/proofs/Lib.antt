@@ -1,3 +1,4 @@
 -- What is computed at full size.
 pub mod FullSize
+pub mod Largest
 pub mod Promises

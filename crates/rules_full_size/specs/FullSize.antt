@@ -1,36 +1,11 @@
--- The cases at full size as a table: messages of 65,535 bytes, joining into a whole buffer, and a block whose 254 numbers are all used.
--- They stand apart from the rules since computing them takes longer than all proofs of the rules.
-use Rattle.std.specs.Prelude.{ℕ, ◌-◌, ◌*◌, List, [], ◌∷◌, ◌++◌, map, replicate}
-use Rattle.laws.specs.Lists.{collect, up_from}
-use Rattle.rules.specs.House.{min_room}
-use Rattle.rules.specs.Run.{Record}
-use Rattle.rules.specs.Listing.{found}
+-- The cases of telegrams at full size as a table: messages of 65,535 bytes, and joining into a whole buffer. They stand apart from the
+-- rules since computing them takes about as long as all proofs of the rules.
+use Rattle.std.specs.Prelude.{List, [], ◌∷◌, replicate}
 use Rattle.rules.specs.Telegram.{uncounted, count_is, uncut, cut_to, idle, opened, unjoined, still_open, complete}
-use Rattle.rules.specs.Table.{hex, with_room, gives, no_orders, records, look_up_after, to_count, to_cut, to_join, results, look_up, count, telegram, joined, Edge, edge}
-use Rattle.rules.specs.Cases.{times}
-
--- position x answers in pass 1 with an address of its own and so many pairs of block 22, the numbers ascending
-unfoldable pub announces : (position first many : ℕ) → Record
-unfolding hex
-announces x first many =
-    record { bytes = hex 7 0x4D45_04_00000001 ++ x ∷ 0x01 ∷ x ∷ many ∷ collect (λ (n : ℕ). 0x22 ∷ n ∷ []) (up_from first many); room = min_room }
-
--- positions 1 to 17 keep all numbers of block 22 but FE, which 18 is offered and 19 announces
-abbrev pub all_numbers : List Record
-all_numbers =
-    with_room 8 0x4D45_01_00000000_15
-    ∷ map (λ (x : ℕ). announces x (16 * x - 14) 16) (up_from 1 15)
-    ++ (announces 16 242 12 ∷ announces 17 1 1 ∷ [])
-    ++ with_room 15 0x4D45_04_00000001_12_0112_02_2202_3100
-    ∷ with_room 13 0x4D45_04_00000001_13_0113_01_22FE
-    ∷ times 3 (with_room 15 0x4D45_04_00000001_12_0112_02_2202_3100 ∷ [])
-    ++ with_room 15 0x4D45_04_00000001_12_0112_02_2202_3100
-    ∷ with_room 17 0x4D45_04_00000001_14_0114_03_2203_3100_2204
-    ∷ with_room 17 0x4D45_04_00000001_14_0114_03_2203_3101_2204
-    ∷ []
+use Rattle.rules.specs.Table.{hex, to_count, to_cut, to_join, count, telegram, joined, Edge, edge}
 
 unfoldable pub full_size : List Edge
-unfolding hex times announces
+unfolding hex
 full_size =
     -- 65,535 at L = 12: 5,958 telegrams, last TelLen 9
     edge (to_count 12 65_535) (count (count_is 5_958))
@@ -100,21 +75,4 @@ full_size =
     ∷ edge
     (to_join 12 (opened 0x0102000C 7 65533) 65535 (hex 10 0x0102000C300407AABBCC ∷ []))
     (joined (unjoined 16 ∷ []) idle (hex 8 0x0000000000000000))
-    -- FE is the last number offered; a pair without a free number is passed over, also after a SET, and the next bad pair has three
-    -- tries
-    ∷ edge
-    (records 12 all_numbers)
-    (results
-    (gives 160 0x4D4F_01_00000001_01_4D4F_01_00000001_02_4D4F_01_00000001_03_4D4F_01_00000001_04_4D4F_01_00000001_05_4D4F_01_00000001_06_4D4F_01_00000001_07_4D4F_01_00000001_08_4D4F_01_00000001_09_4D4F_01_00000001_0A_4D4F_01_00000001_0B_4D4F_01_00000001_0C_4D4F_01_00000001_0D_4D4F_01_00000001_0E_4D4F_01_00000001_0F_4D4F_01_00000001_10_4D4F_01_00000001_11_4D4F_01_00000001_12_4D4F_01_00000001_13_4D4F_01_00000001_14
-    ∷ replicate 15 no_orders
-    ++ replicate 2 no_orders
-    ++ gives 13 0x4D4F_02_00000001_12_0112_22_02_FE
-    ∷ no_orders
-    ∷ times 3 (gives 13 0x4D4F_02_00000001_12_0112_31_00_01 ∷ [])
-    ++ no_orders
-    ∷ gives 13 0x4D4F_02_00000001_14_0114_31_00_01
-    ∷ gives 7 0x4D4F_03_00000001
-    ∷ []))
-    ∷ edge (look_up_after 12 all_numbers 0x22 0xFE) (look_up (found 19 0x0113))
-    ∷ edge (look_up_after 12 all_numbers 0x31 0x01) (look_up (found 20 0x0114))
     ∷ []

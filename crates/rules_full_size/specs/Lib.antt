@@ -1,2 +1,3 @@
 pub mod FullSize
+pub mod Largest
 pub mod Promises

@@ -1,2 +1,2 @@
-// What the rules give at full size: one table; no code.
+// What the rules give at full size: a table of telegrams, and the largest event; no code.
 #![tactic(auto)]

@@ -1,7 +1,8 @@
 // What a SET does to a unit's list.
 #![tactic(auto)]
 
-ghost use Rattle.std.specs.Prelude.{◌≡◌};
+ghost use Rattle.std.specs.Prelude.{◌≡◌, drop};
+ghost use Rattle.rules.specs.Picture.{holds};
 ghost use Rattle.rules_unit.specs.Slave.{renumbered};
 ghost use Rattle.wire_pairs.specs.View.{pair_of, pairs_of};
 ghost use Rattle.unit_renumber.specs.Places.{first_at};
@@ -23,6 +24,21 @@ fn first_of(pairs: Pairs, block: u8, number: u8) -> usize
     n
 }
 
+// The pair is one of those from a place on.
+fn held_from(pairs: Pairs, place: usize, block: u8, number: u8) -> bool
+    ensures { result ≡ holds (drop place (pairs_of pairs)) (pair_of block number) }
+{
+    let n = pairs.len();
+    let mut i = place;
+    while i < n {
+        if wire_pairs::same(block, number, pairs.blocks[i], pairs.numbers[i]) {
+            return true;
+        }
+        i += 1;
+    }
+    false
+}
+
 // The first pair of that block with the old number gets the new one, if there is one and no other pair of the block has the new.
 pub fn renumbered(mut pairs: Pairs, block: u8, old: u8, new: u8) -> Pairs
     ensures { (pairs_of result ≡ renumbered block old new (pairs_of pairs)) × (result.count ≡ pairs.count) }
@@ -35,7 +51,7 @@ pub fn renumbered(mut pairs: Pairs, block: u8, old: u8, new: u8) -> Pairs
     if pairs.first(place).holds(block, new) {
         return pairs;
     }
-    if pairs.holds_from(place + 1, block, new) {
+    if held_from(pairs, place + 1, block, new) {
         return pairs;
     }
     pairs.numbers[place] = new;

@@ -4,14 +4,10 @@ use Rattle.unit_slave.specs.View.{slave_of}
 use Rattle.wire_pairs.specs.View.{pairs_of}
 use native.Mathlib.Omega.{arith}
 use borrow.Author.Rules.{rules}
-use Rattle.unit_slave.proofs.NetworkSlave.unread.Statement.{statement}
-use Rattle.unit_slave.proofs.NetworkSlave.unread.Tie as tie
+use Rattle.unit_slave.proofs.NetworkSlave.unread.Goals as goal
 
-returns : tie.Need-returns
+pub returns : goal.returns
 unfolding slave_of unread
 returns c =
-    let a = c.before.args in
+    let a = c.args in
     (λ i. record { position = a.position.0; address = a.address.0; pairs = pairs_of a.pairs; pass = 0; known = c.none.ensures.0 i }, λ h. record { pairs = h; known = omega (arith, c.none.ensures.1) })
-
-pub unread-spec : {M : Type 1} → statement M
-unread-spec = tie.close (tie.spec (search rules) returns)

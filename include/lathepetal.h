@@ -262,7 +262,7 @@ struct lathepetal_fresh_outcome lathepetal_fresh(size_t l);
 struct lathepetal_record_outcome lathepetal_record(struct lathepetal_picture picture, const uint8_t *bytes, size_t length, uint8_t *out,
                                                    size_t room);
 
-/* The whole listing; of a picture that the box handed out it is empty while OFF. */
+/* The whole listing; it is empty while OFF. */
 struct lathepetal_flat_listing lathepetal_listing(struct lathepetal_picture picture);
 
 /* Where a pair is listed; or 18, or 17. */

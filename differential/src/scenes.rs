@@ -94,14 +94,15 @@ pub fn run<P: RingBox, L: ListsBox, M: ListsBox>(
     progress: impl FnMut(usize),
 ) -> Option<Found> {
     let mut random = Random::new(!seed);
-    let pattern = Pattern::new(lists::MOST_ROOM, || random.word());
+    let mut lists_random = Random::new(seed.reverse_bits());
+    let pattern = Pattern::new(lists::MOST_ROOM, || lists_random.word());
     let lists = lists::Player::<L, M>::new(pattern.clone());
     let session = Session { l: MIN_SIZE, pattern: Player::<P>::pattern(|| random.word()), steps: Vec::new() };
     let player = match Player::<P>::fresh(session.l, session.pattern.clone()) {
         Ok(player) => player,
         Err(difference) => return Some(session.explain::<P>(difference)),
     };
-    let mut both = Both { random, player, session, lists, earlier: Vec::new(), tally, records, progress };
+    let mut both = Both { random, player, session, lists, lists_random, earlier: Vec::new(), tally, records, progress };
     match Play::new(&mut both, seed).run() {
         Stop::Ring(difference) => Some(both.session.explain::<P>(difference)),
         Stop::Lists(comparison, difference) => Some(lists::explain::<L, M>(&pattern, &comparison, difference)),
@@ -115,6 +116,8 @@ struct Both<'a, P, L, M, F> {
     player: Player<P>,
     session: Session,
     lists: lists::Player<L, M>,
+    /// What comparisons are drawn from, so that they leave the rings as they are.
+    lists_random: Random,
     earlier: Vec<Given>,
     tally: &'a mut Tally,
     records: usize,
@@ -154,12 +157,13 @@ impl<P: RingBox, L: ListsBox, M: ListsBox, F: FnMut(usize)> Both<'_, P, L, M, F>
     fn compare_pictures(&mut self, rows: &Rows) -> Result<(), Stop> {
         let now: Vec<Given> = rows.rows[..rows.count].iter().map(|&row| row.into()).collect();
         let earlier = std::mem::replace(&mut self.earlier, now.clone());
-        let (first, second) = if self.random.chance(50) { (earlier, now) } else { (now, earlier) };
-        let room = match self.random.chance(70) {
+        let random = &mut self.lists_random;
+        let (first, second) = if random.chance(50) { (earlier, now) } else { (now, earlier) };
+        let room = match random.chance(70) {
             true => DIFFERENCES_ROOM,
-            false => room_near(needed_room(&seen(&first), &seen(&second)), lists::MOST_ROOM, &mut self.random),
+            false => room_near(needed_room(&seen(&first), &seen(&second)), lists::MOST_ROOM, random),
         };
-        let comparison = Comparison { first, second, room, fill: self.random.word() as usize };
+        let comparison = Comparison { first, second, room, fill: random.word() as usize };
         let compared = self.lists.play(&comparison).and_then(|(number, lines)| {
             self.tally.pictures.count(number, lines);
             let is_refused = matches!(number, refusal::ROW_MALFORMED | refusal::ROWS_NOT_RISING);
@@ -226,17 +230,17 @@ impl<P: RingBox, L: ListsBox, M: ListsBox, F: FnMut(usize)> Stage for Both<'_, P
     fn look_around(&mut self, _: u8, blocks: &[u8]) -> Result<(), Stop> {
         match self.random.below(200) {
             0 => self.look_closely(),
-            1..=6 => {
-                let rows = self.player.compare_listed_rows()?;
-                self.compare_pictures(&rows)
-            }
-            7..=46 => {
+            1..=40 => {
                 let listed = self.player.compare_listing()?.len();
                 self.tally.count_listing(listed);
                 self.player.compare_listed_rows()?;
                 self.look_up(12, blocks)
             }
-            47..=106 => self.look_up(2, blocks),
+            41..=100 => self.look_up(2, blocks),
+            101..=106 => {
+                let rows = self.player.compare_listed_rows()?;
+                self.compare_pictures(&rows)
+            }
             _ => Ok(()),
         }
     }

@@ -39,7 +39,16 @@ const BAD_SIZES: &[usize] = &[
 
 /// A script of about `lines` lines for the registry.
 pub fn ringbox(seed: u64, lines: usize) -> Vec<u8> {
-    let mut writer = ringbox::Writer::new(Script::new(!seed, lines), Random::new(seed.reverse_bits()));
+    with_rings(ringbox::Writer::new(Script::new(!seed, lines)), seed, lines)
+}
+
+/// A script of about `lines` lines for the registry with lists that are compared: the same scenes, and lines about lists among theirs.
+pub fn lists(seed: u64, lines: usize) -> Vec<u8> {
+    let random = Random::new(seed.reverse_bits());
+    with_rings(ringbox::Writer::with_lists(Script::new(!seed, lines), random), seed, lines)
+}
+
+fn with_rings(mut writer: ringbox::Writer, seed: u64, lines: usize) -> Vec<u8> {
     let mut play = rings::Play::new(&mut writer, seed);
     if lines < LONG || play.climb(MANY_PASSES).is_ok() {
         play.run();
@@ -72,6 +81,11 @@ pub fn unit(seed: u64, lines: usize) -> Vec<u8> {
 /// Lines on both sides of the limit, for the registry.
 pub fn ringbox_limits() -> Vec<u8> {
     limits::ringbox()
+}
+
+/// Lines on both sides of the limit, for the lists of the registry.
+pub fn lists_limits() -> Vec<u8> {
+    limits::lists()
 }
 
 /// Lines on both sides of the limit, for the telegrams.

@@ -15,6 +15,7 @@ pub mod wire;
 /// The hand-written scripts that play every edge and every outside vector.
 pub mod scripts {
     pub const RINGBOX_EDGES: &str = include_str!("../scripts/ringbox-edges.txt");
+    pub const LISTS_EDGES: &str = include_str!("../scripts/lists-edges.txt");
     pub const TELEGRAMS_EDGES: &str = include_str!("../scripts/telegrams-edges.txt");
     pub const UNIT_EDGES: &str = include_str!("../scripts/unit-edges.txt");
 }

@@ -7,8 +7,8 @@ use reference::player::{play, Ringbox, Telegrams, UnitBench};
 use reference::{generate, scripts};
 
 const USAGE: &str = "usage: reference ringbox | telegrams | unit
-       reference generate ringbox | telegrams | unit SEED LINES
-       reference vectors ringbox | telegrams | unit
+       reference generate ringbox | lists | telegrams | unit SEED LINES
+       reference vectors ringbox | lists | telegrams | unit
 ";
 
 fn main() -> ExitCode {
@@ -40,6 +40,10 @@ fn run(words: &[&str]) -> io::Result<bool> {
             output.write_all(scripts::RINGBOX_EDGES.as_bytes())?;
             output.write_all(&generate::ringbox_limits())?;
         }
+        ["vectors", "lists"] => {
+            output.write_all(scripts::LISTS_EDGES.as_bytes())?;
+            output.write_all(&generate::lists_limits())?;
+        }
         ["vectors", "telegrams"] => {
             output.write_all(scripts::TELEGRAMS_EDGES.as_bytes())?;
             output.write_all(&generate::telegrams_limits())?;
@@ -48,12 +52,13 @@ fn run(words: &[&str]) -> io::Result<bool> {
             output.write_all(scripts::UNIT_EDGES.as_bytes())?;
             output.write_all(&generate::unit_limits())?;
         }
-        ["generate", kind @ ("ringbox" | "telegrams" | "unit"), seed, lines] => {
+        ["generate", kind @ ("ringbox" | "lists" | "telegrams" | "unit"), seed, lines] => {
             let (Ok(seed), Ok(lines)) = (seed.parse(), lines.parse()) else {
                 return Ok(false);
             };
             let script = match *kind {
                 "ringbox" => generate::ringbox(seed, lines),
+                "lists" => generate::lists(seed, lines),
                 "telegrams" => generate::telegrams(seed, lines),
                 _ => generate::unit(seed, lines),
             };

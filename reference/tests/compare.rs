@@ -658,12 +658,12 @@ fn check_line(bytes: &[u8; 6], line: &str) {
     assert!(words.starts_with(&format!("position {position}")));
 }
 
-/// The scripts that are stored.
+/// The scripts with lists that are stored.
 #[test]
 fn scripts_lead_to_each_kind_and_each_refusal() {
     let mut counter = Counter::default();
     for seed in 1..=8 {
-        counter.play_transcript(&play_bytes(&mut Ringbox::new(), &generate::ringbox(seed, 4_000)));
+        counter.play_transcript(&play_bytes(&mut Ringbox::new(), &generate::lists(seed, 4_000)));
     }
     counter.assert_floors(&[
         ("first from the picture, some rows", 90),
@@ -698,7 +698,7 @@ fn scripts_lead_to_each_kind_and_each_refusal() {
 #[test]
 fn the_fixed_script_leads_to_each_kind_and_each_refusal() {
     let mut counter = Counter::default();
-    counter.play_transcript(&play_bytes(&mut Ringbox::new(), reference::scripts::RINGBOX_EDGES.as_bytes()));
+    counter.play_transcript(&play_bytes(&mut Ringbox::new(), reference::scripts::LISTS_EDGES.as_bytes()));
     counter.assert_floors(&[
         ("refused 2", 30),
         ("refused 20", 15),

@@ -28,7 +28,9 @@ fn the_fixed_scripts_are_stable() {
     assert_stable(ringbox, scripts::RINGBOX_EDGES.as_bytes());
     assert_stable(telegrams, scripts::TELEGRAMS_EDGES.as_bytes());
     assert_stable(unit, scripts::UNIT_EDGES.as_bytes());
+    assert_stable(ringbox, scripts::LISTS_EDGES.as_bytes());
     assert_stable(ringbox, &generate::ringbox_limits());
+    assert_stable(ringbox, &generate::lists_limits());
     assert_stable(unit, &generate::unit_limits());
 }
 
@@ -37,6 +39,9 @@ fn generated_scripts_are_stable_and_repeat() {
     for seed in 0..12 {
         let script = generate::ringbox(seed, 3000);
         assert!(script == generate::ringbox(seed, 3000));
+        assert_stable(ringbox, &script);
+        let script = generate::lists(seed, 3000);
+        assert!(script == generate::lists(seed, 3000));
         assert_stable(ringbox, &script);
         let script = generate::telegrams(seed, 3000);
         assert!(script == generate::telegrams(seed, 3000));
@@ -47,57 +52,63 @@ fn generated_scripts_are_stable_and_repeat() {
     }
 }
 
+const WORDS: [&[u8]; 36] = [
+    b"fresh",
+    b"room",
+    b">",
+    b"state",
+    b"rows",
+    b"lookup",
+    b"listing",
+    b"cut",
+    b"cutall",
+    b"join",
+    b"payload",
+    b"fill",
+    b"count",
+    b"rejoin",
+    b"12",
+    b"65535",
+    b"0102000C",
+    b"4D45",
+    b"01",
+    b"00000000",
+    b"#",
+    b"=",
+    b"<",
+    b"< 4D4F",
+    b"< 4D4F 01 00000001 01",
+    b"unit",
+    b"unit 1 0101",
+    b"22.01",
+    b"31.FF",
+    b"found",
+    b"found 22 01 0101",
+    b"known",
+    b"list",
+    b"self",
+    b"0101",
+    b"  ",
+];
+
+const LIST_WORDS: [&[u8]; 7] =
+    [b"first", b"second", b"none", b"compare", b"first 3 0103", b"second\n", b"compare 20000\n"];
+
 /// Bytes near the words of the language, with very long lines among them.
 fn garbage(random: &mut Random) -> Vec<u8> {
-    let words: [&[u8]; 43] = [
-        b"first",
-        b"second",
-        b"none",
-        b"compare",
-        b"first 3 0103",
-        b"second\n",
-        b"compare 20000\n",
-        b"fresh",
-        b"room",
-        b">",
-        b"state",
-        b"rows",
-        b"lookup",
-        b"listing",
-        b"cut",
-        b"cutall",
-        b"join",
-        b"payload",
-        b"fill",
-        b"count",
-        b"rejoin",
-        b"12",
-        b"65535",
-        b"0102000C",
-        b"4D45",
-        b"01",
-        b"00000000",
-        b"#",
-        b"=",
-        b"<",
-        b"< 4D4F",
-        b"< 4D4F 01 00000001 01",
-        b"unit",
-        b"unit 1 0101",
-        b"22.01",
-        b"31.FF",
-        b"found",
-        b"found 22 01 0101",
-        b"known",
-        b"list",
-        b"self",
-        b"0101",
-        b"  ",
-    ];
+    garbage_of(&WORDS, random)
+}
+
+/// The same with words of lists.
+fn garbage_with_lists(random: &mut Random) -> Vec<u8> {
+    garbage_of(&[&LIST_WORDS[..], &WORDS].concat(), random)
+}
+
+fn garbage_of(words: &[&[u8]], random: &mut Random) -> Vec<u8> {
     let mut text = Vec::new();
     for _ in 0..random.below(400) {
         match random.below(30) {
-            0..=9 => text.extend_from_slice(random.pick(&words[..])),
+            0..=9 => text.extend_from_slice(random.pick(words)),
             10..=17 => text.push(b' '),
             18..=23 => text.push(b'\n'),
             24 => text.extend_from_slice(random.pick(&[&b"\r"[..], b"\t", b"\0", b"\r\n", b" \r \t"])),
@@ -116,6 +127,16 @@ fn garbage(random: &mut Random) -> Vec<u8> {
 fn random_bytes_are_stable() {
     for seed in 0..3000 {
         let script = garbage(&mut Random::new(seed));
+        assert_stable(ringbox, &script);
+        assert_stable(telegrams, &script);
+        assert_stable(unit, &script);
+    }
+}
+
+#[test]
+fn garbage_with_words_of_lists_is_stable() {
+    for seed in 0..3000 {
+        let script = garbage_with_lists(&mut Random::new(seed));
         assert_stable(ringbox, &script);
         assert_stable(telegrams, &script);
         assert_stable(unit, &script);

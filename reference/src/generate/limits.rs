@@ -41,8 +41,7 @@ fn command(script: &mut Vec<u8>, words: &str, bytes: impl Iterator<Item = u8>) {
     line(script, format!("{words}{digits}").as_bytes());
 }
 
-/// Records whose normal form is as long as a line may be, or longer by little or much: an ANSWER, and one with fewer blanks. Rows of
-/// lists and comparisons with blanks and zeros between their words, up to the limit of a line; and lists of as many rows as there may be.
+/// Records whose normal form is as long as a line may be, or longer by little or much: an ANSWER, and one with fewer blanks.
 pub fn ringbox() -> Vec<u8> {
     let mut script = Vec::new();
     words(&mut script, '<');
@@ -57,34 +56,37 @@ pub fn ringbox() -> Vec<u8> {
     for length in 8_188..=8_190 {
         command(&mut script, ">", record(NONE, length));
     }
-    lists(&mut script);
     script
 }
 
-fn lists(script: &mut Vec<u8>) {
+/// Rows of lists and comparisons with blanks and zeros between their words, up to the limit of a line; and lists of as many rows as
+/// there may be.
+pub fn lists() -> Vec<u8> {
+    let mut script = Vec::new();
     for words in LIST_DIGITS {
-        digits(script, words);
-        line(script, b"first none");
+        digits(&mut script, words);
+        line(&mut script, b"first none");
     }
-    filled_lines(script, &FILLED_LISTS);
-    line(script, format!("compare {BENCH_DIFFERENCE_ROOM}").as_bytes());
+    filled_lines(&mut script, &FILLED_LISTS);
+    line(&mut script, format!("compare {BENCH_DIFFERENCE_ROOM}").as_bytes());
     for word in ["first", "second"] {
         for count in [BENCH_PAIRS, BENCH_PAIRS + 1] {
-            line(script, format!("{word} 1 0101{}", wide_pairs(count)).as_bytes());
+            line(&mut script, format!("{word} 1 0101{}", wide_pairs(count)).as_bytes());
         }
-        line(script, format!("compare {BENCH_DIFFERENCE_ROOM}").as_bytes());
-        line(script, format!("{word} none").as_bytes());
+        line(&mut script, format!("compare {BENCH_DIFFERENCE_ROOM}").as_bytes());
+        line(&mut script, format!("{word} none").as_bytes());
     }
     for position in 1..=BENCH_ROWS + 2 {
-        line(script, format!("second {position} 01{position:02X}").as_bytes());
+        line(&mut script, format!("second {position} 01{position:02X}").as_bytes());
     }
     // A row too many, in lines whose comment fits and does not fit.
     for length in MAX_LINE - 3..=MAX_LINE + 1 {
-        line(script, format!("{:<width$}1 0101", "second", width = length - "1 0101".len()).as_bytes());
+        line(&mut script, format!("{:<width$}1 0101", "second", width = length - "1 0101".len()).as_bytes());
     }
-    line(script, format!("compare {BENCH_DIFFERENCE_ROOM}").as_bytes());
-    line(script, b"second none");
-    line(script, b"compare 0");
+    line(&mut script, format!("compare {BENCH_DIFFERENCE_ROOM}").as_bytes());
+    line(&mut script, b"second none");
+    line(&mut script, b"compare 0");
+    script
 }
 
 /// So many pairs far apart: as many as a row may have and one more stand in a line of less than the limit, and its normal form is short.

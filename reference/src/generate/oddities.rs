@@ -6,18 +6,20 @@ use crate::player::MAX_LINE;
 /// The odd lines of a program.
 pub struct Oddities {
     /// Lines that end in each of the reasons, and other forms that do not.
-    reasons: &'static [&'static str],
+    reasons: &'static [&'static [&'static str]],
     /// Comments, empty lines and earlier answers.
     quiet: &'static [&'static str],
     /// How long lines begin.
     starts: &'static [&'static [u8]],
 }
 
+pub const RINGBOX: &Oddities = &Oddities { reasons: &[RINGBOX_REASONS], quiet: QUIET, starts: STARTS };
 /// None of these lines changes the lists.
-pub const RINGBOX: &Oddities = &Oddities { reasons: RINGBOX_REASONS, quiet: QUIET, starts: RINGBOX_STARTS };
-pub const TELEGRAMS: &Oddities = &Oddities { reasons: TELEGRAMS_REASONS, quiet: QUIET, starts: STARTS };
+pub const LISTS: &Oddities =
+    &Oddities { reasons: &[RINGBOX_REASONS, LISTS_REASONS], quiet: QUIET, starts: LISTS_STARTS };
+pub const TELEGRAMS: &Oddities = &Oddities { reasons: &[TELEGRAMS_REASONS], quiet: QUIET, starts: STARTS };
 /// None of these lines changes the unit.
-pub const UNIT: &Oddities = &Oddities { reasons: UNIT_REASONS, quiet: UNIT_QUIET, starts: UNIT_STARTS };
+pub const UNIT: &Oddities = &Oddities { reasons: &[UNIT_REASONS], quiet: UNIT_QUIET, starts: UNIT_STARTS };
 
 const RINGBOX_REASONS: &[&str] = &[
     "nothing",
@@ -93,6 +95,9 @@ const RINGBOX_REASONS: &[&str] = &[
     "lookup 2@ 01",
     "fresh 1:",
     "fresh 1/",
+];
+
+const LISTS_REASONS: &[&str] = &[
     "First",
     "firsts",
     "SECOND none",
@@ -380,7 +385,7 @@ const UNIT_QUIET: &[&str] = &[
 
 const STARTS: &[&[u8]] = &[b"# ", b"= ", b"x", b"> 4D45 ", b"state ", b"payload ", b"join 12 65535 ", b" ", b"< "];
 
-const RINGBOX_STARTS: &[&[u8]] = &[
+const LISTS_STARTS: &[&[u8]] = &[
     b"# ",
     b"= ",
     b"x",
@@ -419,7 +424,7 @@ pub fn odd_line(script: &mut Script, oddities: &Oddities) {
             script.line(line.as_bytes());
         }
         45..=93 => {
-            let line = script.random.pick(oddities.reasons);
+            let line = script.random.pick(&oddities.reasons.concat());
             script.line(line.as_bytes());
         }
         94..=96 => garbage(script),

@@ -1,8 +1,8 @@
-//! The writer of scripts for the registry: it plays each record in a ring of its own, and writes what shows the ring. It takes the
-//! ring's rows as lists, types others, and compares.
+//! The writer of scripts for the registry: it plays each record in a ring of its own, and writes what shows the ring. A script with
+//! lists takes the ring's rows as lists too, types others, and compares.
 
 use super::lists::{self, needed_room, room_near, MANY_DIFFERENCES};
-use super::oddities::{odd_line, RINGBOX};
+use super::oddities::{odd_line, Oddities, LISTS, RINGBOX};
 use super::rings::{pair_near, Stage};
 use super::script::{Full, Script};
 use super::Random;
@@ -22,20 +22,27 @@ pub struct Writer {
     buffer: Vec<u8>,
     /// By the numbers of `List`.
     lists: [Vec<ListRow>; 2],
-    /// What the lines about lists are drawn from, so that they leave the other lines as they are.
-    lists_random: Random,
+    /// What the lines about lists are drawn from, so that they leave the other lines as they are; nothing where there are no such lines.
+    lists_random: Option<Random>,
+    oddities: &'static Oddities,
 }
 
 impl Writer {
-    pub fn new(script: Script, lists_random: Random) -> Writer {
+    pub fn new(script: Script) -> Writer {
         Writer {
             script,
             ring: Ring::default(),
             room: BENCH_ROOM,
             buffer: vec![0; BENCH_ROOM],
             lists: [Vec::new(), Vec::new()],
-            lists_random,
+            lists_random: None,
+            oddities: RINGBOX,
         }
+    }
+
+    /// A writer that writes about lists too.
+    pub fn with_lists(script: Script, random: Random) -> Writer {
+        Writer { lists_random: Some(random), oddities: LISTS, ..Writer::new(script) }
     }
 
     pub fn into_text(self) -> Vec<u8> {
@@ -55,15 +62,21 @@ impl Writer {
         self.script.command(&format!("lookup {:02X} {:02X}", pair.block, pair.number));
     }
 
-    /// Writes lines about lists in so many of a thousand cases.
+    /// Writes lines about lists in so many of a thousand cases, if it writes any.
     fn about_lists(&mut self, share: usize, write: impl FnOnce(&mut Writer) -> Result<(), Full>) -> Result<(), Full> {
-        if self.lists_random.below(1000) >= share {
+        if !self.lists_random.as_mut().is_some_and(|random| random.below(1000) < share) {
             return Ok(());
         }
-        std::mem::swap(&mut self.script.random, &mut self.lists_random);
+        self.swap_random();
         let written = write(self);
-        std::mem::swap(&mut self.script.random, &mut self.lists_random);
+        self.swap_random();
         written
+    }
+
+    fn swap_random(&mut self) {
+        if let Some(random) = &mut self.lists_random {
+            std::mem::swap(&mut self.script.random, random);
+        }
     }
 
     /// A list is the ring's rows, seldom with a row more behind them; mostly it is compared.
@@ -120,7 +133,7 @@ impl Writer {
             self.script.go_on()?;
             self.type_row(list, row);
             if self.script.random.chance(3) {
-                odd_line(&mut self.script, RINGBOX);
+                odd_line(&mut self.script, self.oddities);
             }
         }
         match rows {
@@ -211,7 +224,7 @@ impl Stage for Writer {
             self.look_up(blocks);
         }
         if self.script.random.chance(3) {
-            odd_line(&mut self.script, RINGBOX);
+            odd_line(&mut self.script, self.oddities);
         }
         self.about_lists(20, Writer::take_rows)
     }

@@ -14,7 +14,7 @@ use Rattle.laws.specs.Alls.{all_map}
 use Rattle.laws.specs.Bools.{or_left, or_right, or_true_left, or_true_right, or_none, cond_true, cond_false}
 use Rattle.rules.specs.House.{max_units}
 use Rattle.rules_diff.specs.Differences.{NodeRow, Seen, absent, present, seen_at, Line, lines_at, differences, is_bad, falls, Compared, uncompared, fitted, compare}
-use Rattle.rules_diff.proofs.Rows.{behind, good_row, rises, sees}
+use Rattle.rules_diff.proofs.Rows.{Behind, good_row, rises, sees}
 use Rattle.diff_rows.specs.Gathering.{Gathering, nothing_seen, gathered, gathered_all}
 use Rattle.diff_lines.specs.Comparing.{lines_over, compared_by}
 
@@ -79,7 +79,7 @@ or_else_absent (present a ps) = refl
 -- rows behind a position do not have it
 not_later : (x last : ℕ) (rs : List NodeRow) → falls last rs ≡ false → x ≤ last → seen_at x rs ≡ absent
 not_later x last rs h l =
-    (sees rs x).nobody (all_map (λ (r : NodeRow) (m : behind last r) (e : r.position ≡ x). let z : 1 ≤ 0 = omega (arith, m, e, l) in not-suc-le-zero z) (rises last rs h).0)
+    (sees rs x).nobody (all_map (λ (r : NodeRow) (m : Behind last r) (e : r.position ≡ x). let z : 1 ≤ 0 = omega (arith, m, e, l) in not-suc-le-zero z) (rises last rs h).0)
 
 -- what the seats hold, where nothing is refused
 seats_all : (g : Gathering) (rs : List NodeRow) → any is_bad rs ≡ false → falls g.last rs ≡ false → (i : ℕ) → i < length g.seats

@@ -1,4 +1,4 @@
-// A lent list of node rows gathered. The kit's borrow checker does not cover a slice of structs: the walk is proved by hand.
+// A lent list of node rows gathered.
 #![tactic(auto)]
 
 ghost use Rattle.std.specs.Prelude.{◌≡◌, map};

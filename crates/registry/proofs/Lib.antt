@@ -7,6 +7,7 @@ pub mod Telling
 pub mod Places
 pub mod Replying
 pub mod Refusing
+mod Recording
 pub mod Conflicts
 pub mod Stepping
 pub mod Following

@@ -3,7 +3,7 @@
 use Rattle.std.specs.Prelude.{ℕ, ◌≡◌, Bool, cond, not, ◌&&◌, ◌||◌, List, [], ◌∷◌, ◌++◌}
 use Rattle.laws.specs.Buffers.{Wrote}
 use Rattle.rules.specs.Picture.{State, Ok, is_not_ok, is_ok}
-use Rattle.rules.specs.Order.{Order, OK, wait_short, WAIT-LONG, encode_all}
+use Rattle.rules.specs.Order.{Order, OK, WAIT_SHORT, WAIT_LONG, encode_all}
 use Rattle.ring_state.specs.State.{state_of, runs}
 use Rattle.ring_ending.specs.declared.Closed.{Closed}
 
@@ -20,7 +20,7 @@ unfoldable pub starts_delay : State → (delay question silent : Bool) → Bool
 starts_delay s d q n = is_ok (state_after s q) && not q && n && not d
 
 unfoldable pub closing_orders : State → (delay question silent short : Bool) → List Order
-closing_orders s d q n h = cond (is_over s q) (OK ∷ []) [] ++ cond (starts_delay s d q n) (cond h wait_short WAIT-LONG ∷ []) []
+closing_orders s d q n h = cond (is_over s q) (OK ∷ []) [] ++ cond (starts_delay s d q n) (cond h WAIT_SHORT WAIT_LONG ∷ []) []
 
 -- What closing does: the marks afterwards, and the orders written from `at` on.
 pub record Closes (s : State) (d q n h : Bool) (pass : ℕ) (before : List ℕ) (at : ℕ) (r : Closed) (after : List ℕ) : Type 0 where

@@ -4,7 +4,8 @@
 ghost use Rattle.std.specs.Prelude.{◌≡◌, cond, not, ◌&&◌, ◌||◌, [], ◌∷◌, ◌+◌, ◌≤◌, length};
 ghost use Rattle.laws.specs.Buffers.{Wrote};
 ghost use Rattle.rules.specs.Picture.{Ok, is_not_ok, is_ok};
-ghost use Rattle.rules.specs.Order.{OK, wait_short, WAIT-LONG, encode_all};
+ghost use Rattle.rules.specs.Order as order;
+ghost use Rattle.rules.specs.Order.{WAIT_SHORT, WAIT_LONG, encode_all};
 ghost use Rattle.ring_state.specs.State.{state_of, runs, last_state, last_delay};
 ghost use Rattle.ring_ending.specs.Closing.{closing_orders, Closes};
 
@@ -76,8 +77,8 @@ fn delayed(delay: CfgDelay, starts: bool) -> CfgDelay
 
 // The order OK, where the scan is over.
 fn write_ok(out: &mut [u8], at: usize, pass: u32, ok: bool) -> usize
-    requires { at + length (encode_all pass (cond ok (OK ∷ []) [])) ≤ length out.old }
-    ensures { Wrote out.old at (encode_all pass (cond ok (OK ∷ []) [])) result out.new }
+    requires { at + length (encode_all pass (cond ok (order.OK ∷ []) [])) ≤ length out.old }
+    ensures { Wrote out.old at (encode_all pass (cond ok (order.OK ∷ []) [])) result out.new }
 {
     if ok {
         return wire_orders::write_notice(out, at, pass, Notice::Ok);
@@ -87,8 +88,8 @@ fn write_ok(out: &mut [u8], at: usize, pass: u32, ok: bool) -> usize
 
 // The wait that starts a delay: a short one, or a long one.
 fn write_wait(out: &mut [u8], at: usize, pass: u32, starts: bool, short: bool) -> usize
-    requires { at + length (encode_all pass (cond starts (cond short WAIT-SHORT WAIT-LONG ∷ []) [])) ≤ length out.old }
-    ensures { Wrote out.old at (encode_all pass (cond starts (cond short WAIT-SHORT WAIT-LONG ∷ []) [])) result out.new }
+    requires { at + length (encode_all pass (cond starts (cond short WAIT_SHORT WAIT_LONG ∷ []) [])) ≤ length out.old }
+    ensures { Wrote out.old at (encode_all pass (cond starts (cond short WAIT_SHORT WAIT_LONG ∷ []) [])) result out.new }
 {
     if starts {
         if short {

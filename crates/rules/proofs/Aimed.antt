@@ -15,7 +15,7 @@ use Rattle.laws.specs.Alls.{All, all_nil, all_cons, all_append, all_map, all_in,
 use Rattle.rules.specs.House.{max_tries, max_silences}
 use Rattle.rules.specs.Picture.{Pair, same_pair, holds, Row, Picture, with_rows, with_state, with_delay, Kept, kept, kept_by, pairs_of, pairs_in, has_address, keeps, no_row, row_at, is_open, is_ok, is_silent, Seat, seat_at, others, put}
 use Rattle.rules.specs.Event.{Event, START, NCE, SHUTDOWN, ANSWER, NONE, DELAY, decode}
-use Rattle.rules.specs.Order.{Order, ASK, OK, NOTOK, NEW, INVALID, wait_short, WAIT-LONG}
+use Rattle.rules.specs.Order.{Order, ASK, OK, NOTOK, NEW, INVALID, WAIT_SHORT, WAIT_LONG}
 use Rattle.rules.specs.Renumber.{Judged, is_good, judge, goods, free_number, Renumbering, finished, renumbers, offer, renumber_from, renumber, place_of, tries_of}
 use Rattle.rules.specs.Listing.{listed_pairs}
 use Rattle.rules.specs.Step.{Packing, rows_separately, across_rows, Change, asks, scan, begin, rescan, shut_down, change_rows, delay_ends, set_order, judged_for, renumbering_for, listed_row, keep_answer}
@@ -79,8 +79,8 @@ record Plain (P : Order → Type 0) : Type 0 where
   notok : P NOTOK
   new : (ps : List Pair) → P (NEW ps)
   invalid : (ps : List Pair) → P (INVALID ps)
-  short : P wait_short
-  long : P WAIT-LONG
+  short : P WAIT_SHORT
+  long : P WAIT_LONG
 
 module _ (P : Order → Type 0) (h : Plain P) where
   all_asks : (f : Row → Bool) (x : ℕ) (rows : List Row) → All P (asks f x rows)
@@ -121,7 +121,7 @@ module _ (P : Order → Type 0) (h : Plain P) where
   unfolding wait_order
   all_waits p = go (waits p) (any (λ (r : Row). is_silent r && ltb r.silences max_silences) p.rows)
     where
-      go : (b c : Bool) → All P (cond b (cond c wait_short WAIT-LONG ∷ []) [])
+      go : (b c : Bool) → All P (cond b (cond c WAIT_SHORT WAIT_LONG ∷ []) [])
       go true true = all_cons h.short all_nil
       go true false = all_cons h.long all_nil
       go false c = all_nil

@@ -17,7 +17,7 @@ use Rattle.rules.specs.Picture.{is_not_ok, is_ok, Pair, holds, Status, WAITING, 
 use Rattle.rules.specs.Picture.{Kept, nothing, kept, kept_by, kept_in, pairs_of, pairs_in, has_address, keeps, is_open, is_open_status, is_silent, is_silent_status, new_row, Seat, seat_at, others, put}
 use Rattle.rules.specs.Listing.{entries_of, entries_from, listing, listed_pairs}
 use Rattle.rules.specs.Event.{Event, two, four}
-use Rattle.rules.specs.Order.{Order, ASK, SET, OK, NOTOK, NEW, INVALID, wait_short, WAIT-LONG, kind_of, body_of, encode, encode_all}
+use Rattle.rules.specs.Order.{Order, ASK, SET, OK, NOTOK, NEW, INVALID, WAIT_SHORT, WAIT_LONG, kind_of, body_of, encode, encode_all}
 use Rattle.rules.specs.Renumber.{judge, goods, Renumbering, finished, renumbers}
 use Rattle.rules.specs.Step.{Packing, rows_separately, across_rows, Change, change, respond, asks, scanned, scan, begin, rescanned, rescan, shut_down, change_rows, silenced, asked, delay_ends, ignored, counted, on_counted, set_order, judged_for, renumbering_for, listed_row, keep_answer}
 use Rattle.rules.specs.Ending.{becomes_ok, settled, ok_order, missing, packed, tell, lost, gained, tell_rows, told_by, told, waits, wait_order, end_orders, orders_of}
@@ -34,8 +34,8 @@ size_of OK = 7
 size_of NOTOK = 7
 size_of (NEW ps) = 8 + 2 * length ps
 size_of (INVALID ps) = 8 + 2 * length ps
-size_of wait_short = 7
-size_of WAIT-LONG = 7
+size_of WAIT_SHORT = 7
+size_of WAIT_LONG = 7
 
 encode_size : (n : ℕ) (o : Order) → length (encode n o) ≡ size_of o
 unfolding encode four two kind_of body_of size_of
@@ -45,8 +45,8 @@ encode_size n OK = refl
 encode_size n NOTOK = refl
 encode_size n (NEW ps) = let e = pairs_length ps in omega arith
 encode_size n (INVALID ps) = let e = pairs_length ps in omega arith
-encode_size n wait_short = refl
-encode_size n WAIT-LONG = refl
+encode_size n WAIT_SHORT = refl
+encode_size n WAIT_LONG = refl
 
 pub encode_all_size : (n : ℕ) (os : List Order) → length (encode_all n os) ≡ total size_of os
 unfolding encode_all collect total
@@ -321,7 +321,7 @@ wait_size : (p : Picture) → total size_of (wait_order p) ≤ 7
 unfolding wait_order total size_of
 wait_size p = go (waits p) (any (λ (r : Row). is_silent r && ltb r.silences max_silences) p.rows)
   where
-    go : (b c : Bool) → total size_of (cond b (cond c wait_short WAIT-LONG ∷ []) []) ≤ 7
+    go : (b c : Bool) → total size_of (cond b (cond c WAIT_SHORT WAIT_LONG ∷ []) []) ≤ 7
     go true true = omega arith
     go true false = omega arith
     go false c = omega arith

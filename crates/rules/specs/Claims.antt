@@ -6,7 +6,7 @@ use Rattle.rules.specs.Event.{Event, START, NCE, SHUTDOWN, ANSWER, NONE, DELAY, 
 use Rattle.rules.specs.House.{min_number, max_number}
 use Rattle.rules.specs.Renumber.{is_in, free_number}
 use Rattle.rules.specs.Step.{takes}
-use Rattle.rules.specs.Order.{encode_all, Order, ASK, SET, OK, NOTOK, NEW, INVALID, wait_short, WAIT-LONG, encode}
+use Rattle.rules.specs.Order.{encode_all, Order, ASK, SET, OK, NOTOK, NEW, INVALID, WAIT_SHORT, WAIT_LONG, encode}
 use Rattle.rules.specs.Run.{Outcome, refused, taken, Record, offered, next, after, history, Sent, sent_by, written, lent, result_of}
 use Rattle.rules.specs.Telegram.{uncounted, count_number, count_value, uncut, cut_number, cut_bytes, cut_length, unjoined, join_number, join_msg_id, join_length}
 use Rattle.rules.specs.Telegram.{telegram_of, telegrams, count_of, count, count_is, cut, cut_to, Joining, idle, still_open, complete, join, join_all}
@@ -48,8 +48,8 @@ is_for x OK = false
 is_for x NOTOK = false
 is_for x (NEW ps) = false
 is_for x (INVALID ps) = false
-is_for x wait_short = false
-is_for x WAIT-LONG = false
+is_for x WAIT_SHORT = false
+is_for x WAIT_LONG = false
 
 unfoldable pub later : Option ℕ → Option ℕ → Option ℕ
 later none m = m
@@ -294,8 +294,8 @@ Aimed e q OK = Unit {0}
 Aimed e q NOTOK = Unit {0}
 Aimed e q (NEW ps) = Unit {0}
 Aimed e q (INVALID ps) = Unit {0}
-Aimed e q wait_short = Unit {0}
-Aimed e q WAIT-LONG = Unit {0}
+Aimed e q WAIT_SHORT = Unit {0}
+Aimed e q WAIT_LONG = Unit {0}
 
 pub record SetsAimed (p : Picture) (r : Record) : Type 0 where
   pub aimed : All (λ (s : Sent). Aimed (accepted p r) (next p r) s.order) (sent_by (offered p r))

@@ -3,7 +3,7 @@ use Rattle.std.specs.Prelude.{ℕ, zero, suc, ◌-◌, ◌/◌, Bool, cond, not,
 use Rattle.laws.specs.Lists.{any, select}
 use Rattle.rules.specs.House.{max_silences}
 use Rattle.rules.specs.Picture.{Ok, is_not_ok, is_ok, Pair, holds, Row, Picture, with_state, with_delay, pairs_in, is_open, is_silent}
-use Rattle.rules.specs.Order.{Order, OK, NEW, INVALID, wait_short, WAIT-LONG}
+use Rattle.rules.specs.Order.{Order, OK, NEW, INVALID, WAIT_SHORT, WAIT_LONG}
 use Rattle.rules.specs.Listing.{listed_pairs}
 use Rattle.rules.specs.Step.{Packing, rows_separately, across_rows, Change}
 
@@ -59,7 +59,7 @@ waits p = is_ok p.state && not (any is_open p.rows) && any is_silent p.rows && n
 -- "WAIT SHORT if some SILENT row counts below 20, else WAIT LONG (003); the delay runs."
 unfoldable pub wait_order : Picture → List Order
 wait_order p =
-    cond (waits p) (cond (any (λ (r : Row). is_silent r && ltb r.silences max_silences) p.rows) wait_short WAIT-LONG ∷ []) []
+    cond (waits p) (cond (any (λ (r : Row). is_silent r && ltb r.silences max_silences) p.rows) WAIT_SHORT WAIT_LONG ∷ []) []
 
 -- the ending of an event whose steps left picture q: the picture afterwards, and the orders OK and WAIT
 unfoldable pub ended : Picture → Picture

@@ -11,7 +11,7 @@ pub data Order : Type 0 where
   SET : (position address block old new : ℕ) → Order
   OK NOTOK : Order
   NEW INVALID : List Pair → Order
-  wait_short WAIT-LONG : Order
+  WAIT_SHORT WAIT_LONG : Order
 
 -- what stands behind the pass, with the kind
 unfoldable pub kind_of : Order → ℕ
@@ -21,8 +21,8 @@ kind_of OK = 3
 kind_of NOTOK = 4
 kind_of (NEW ps) = 5
 kind_of (INVALID ps) = 6
-kind_of wait_short = 7
-kind_of WAIT-LONG = 8
+kind_of WAIT_SHORT = 7
+kind_of WAIT_LONG = 8
 
 unfoldable pub body_of : Order → List ℕ
 body_of (ASK x) = x ∷ []
@@ -31,8 +31,8 @@ body_of OK = []
 body_of NOTOK = []
 body_of (NEW ps) = length ps ∷ collect pair_bytes ps
 body_of (INVALID ps) = length ps ∷ collect pair_bytes ps
-body_of wait_short = []
-body_of WAIT-LONG = []
+body_of WAIT_SHORT = []
+body_of WAIT_LONG = []
 
 -- "Order: mark 4D 4F, kind (1), pass (4)."
 unfoldable pub encode : ℕ → Order → List ℕ

@@ -11,7 +11,7 @@ use Rattle.laws.specs.Lists.{any, select}
 use Rattle.laws.specs.Bools.{or_none, or_false, or_true_left, or_true_right, cond_true, cond_false}
 use Rattle.laws.specs.Alls.{all_of, select_all}
 use Rattle.rules.specs.Picture.{Pair, same_pair, holds}
-use Rattle.rules.specs.Order.{Order, ASK, SET, OK, NOTOK, NEW, INVALID, wait_short, WAIT-LONG}
+use Rattle.rules.specs.Order.{Order, ASK, SET, OK, NOTOK, NEW, INVALID, WAIT_SHORT, WAIT_LONG}
 use Rattle.rules.specs.Run.{Sent}
 use Rattle.rules.specs.Listing.{found}
 use Rattle.rules_unit.specs.Reading.{decode_order}
@@ -38,8 +38,8 @@ not_notok OK f = refl
 not_notok NOTOK f = absurd (f refl)
 not_notok (NEW ps) f = refl
 not_notok (INVALID ps) f = refl
-not_notok wait_short f = refl
-not_notok WAIT-LONG f = refl
+not_notok WAIT_SHORT f = refl
+not_notok WAIT_LONG f = refl
 
 not_invalid : (o : Order) → ((ps : List Pair) → o ≡ INVALID ps → ⊥) → named o ≡ []
 unfolding named
@@ -49,8 +49,8 @@ not_invalid OK f = refl
 not_invalid NOTOK f = refl
 not_invalid (NEW ps) f = refl
 not_invalid (INVALID ps) f = absurd (f ps refl)
-not_invalid wait_short f = refl
-not_invalid WAIT-LONG f = refl
+not_invalid WAIT_SHORT f = refl
+not_invalid WAIT_LONG f = refl
 
 besides_none : (ks : List Known) → besides [] ks ≡ ks
 unfolding besides holds any

@@ -11,7 +11,7 @@ use Rattle.laws.specs.Bools.{clash, not_true, or_false, or_true_right, cond_true
 use Rattle.laws.specs.Alls.{All, all_nil, all_map, all_both, all_of, all_selected}
 use Rattle.rules.specs.House.{min_answer_room, max_pass}
 use Rattle.rules.specs.Picture.{Pair, holds}
-use Rattle.rules.specs.Order.{Order, ASK, SET, OK, NOTOK, NEW, INVALID, wait_short, WAIT-LONG, encode, encode_all}
+use Rattle.rules.specs.Order.{Order, ASK, SET, OK, NOTOK, NEW, INVALID, WAIT_SHORT, WAIT_LONG, encode, encode_all}
 use Rattle.rules.specs.Run.{Sent, sent_with}
 use Rattle.rules_unit.specs.Slave.{Known, Slave, besides, says_not_ok, empties, named, known_after, heard, on_order, read, reads, turned, lived}
 use Rattle.rules_unit.specs.Bench.{readings}
@@ -67,8 +67,8 @@ named_narrowed OK = refl
 named_narrowed NOTOK = refl
 named_narrowed (NEW ps) = refl
 named_narrowed (INVALID ps) = refl
-named_narrowed wait_short = refl
-named_narrowed WAIT-LONG = refl
+named_narrowed WAIT_SHORT = refl
+named_narrowed WAIT_LONG = refl
 
 -- no answer is left that an order names
 pub heard_unnamed : (c : ℕ) (u : Slave) (os : List Order) → All (λ (k : Known). any (names k) os ≡ false) (heard_all c u os).known

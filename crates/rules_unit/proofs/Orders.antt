@@ -14,7 +14,7 @@ use Rattle.laws.specs.Bools.{and_left, and_right, and_true, cond_true, on_cond}
 use Rattle.rules.specs.House.{max_pass}
 use Rattle.rules.specs.Picture.{Pair}
 use Rattle.rules.specs.Event.{be2, be4, two, four, read_pairs, pair_bytes}
-use Rattle.rules.specs.Order.{Order, ASK, SET, OK, NOTOK, NEW, INVALID, wait_short, WAIT-LONG, kind_of, body_of, encode, encode_all}
+use Rattle.rules.specs.Order.{Order, ASK, SET, OK, NOTOK, NEW, INVALID, WAIT_SHORT, WAIT_LONG, kind_of, body_of, encode, encode_all}
 use Rattle.rules.specs.Run.{Sent, sent_with}
 use Rattle.rules.proofs.Encode.{two_back, four_back, read_back, pairs_length}
 use Rattle.rules.proofs.Decode.{two_again, four_again, pairs_again, spelled, Bytes, byte, pass_small, address_small}
@@ -29,8 +29,8 @@ narrowed OK = OK
 narrowed NOTOK = NOTOK
 narrowed (NEW ps) = NEW ps
 narrowed (INVALID ps) = INVALID ps
-narrowed wait_short = wait_short
-narrowed WAIT-LONG = WAIT-LONG
+narrowed WAIT_SHORT = WAIT_SHORT
+narrowed WAIT_LONG = WAIT_LONG
 
 -- an order is as long as its kind and its count say, whatever stands behind it
 pub own_length : (c : ℕ) (o : Order) (rest : List ℕ) → order_length (encode c o ++ rest) ≡ length (encode c o)
@@ -41,8 +41,8 @@ own_length c OK rest = refl
 own_length c NOTOK rest = refl
 own_length c (NEW ps) rest = let e = pairs_length ps in omega arith
 own_length c (INVALID ps) rest = let e = pairs_length ps in omega arith
-own_length c wait_short rest = refl
-own_length c WAIT-LONG rest = refl
+own_length c WAIT_SHORT rest = refl
+own_length c WAIT_LONG rest = refl
 
 whole_length : (c : ℕ) (o : Order) → order_length (encode c o) ≡ length (encode c o)
 whole_length c o = ap order_length (sym (append-nil (encode c o))) ∙ own_length c o []
@@ -63,8 +63,8 @@ decode_order_lem c OK h = by_kind c OK ∙ (λ i. some (sent_with (four_back c h
 decode_order_lem c NOTOK h = by_kind c NOTOK ∙ (λ i. some (sent_with (four_back c h i) NOTOK))
 decode_order_lem c (NEW ps) h = by_kind c (NEW ps) ∙ (λ i. some (sent_with (four_back c h i) (NEW (read_back ps i))))
 decode_order_lem c (INVALID ps) h = by_kind c (INVALID ps) ∙ (λ i. some (sent_with (four_back c h i) (INVALID (read_back ps i))))
-decode_order_lem c wait_short h = by_kind c wait_short ∙ (λ i. some (sent_with (four_back c h i) wait_short))
-decode_order_lem c WAIT-LONG h = by_kind c WAIT-LONG ∙ (λ i. some (sent_with (four_back c h i) WAIT-LONG))
+decode_order_lem c WAIT_SHORT h = by_kind c WAIT_SHORT ∙ (λ i. some (sent_with (four_back c h i) WAIT_SHORT))
+decode_order_lem c WAIT_LONG h = by_kind c WAIT_LONG ∙ (λ i. some (sent_with (four_back c h i) WAIT_LONG))
 
 decode_writable : (c : ℕ) (o : Order) → Writable c o → decode_order (encode c o) ≡ some (sent_with c o)
 unfolding narrowed
@@ -74,8 +74,8 @@ decode_writable c OK w = decode_order_lem c OK w
 decode_writable c NOTOK w = decode_order_lem c NOTOK w
 decode_writable c (NEW ps) w = decode_order_lem c (NEW ps) w
 decode_writable c (INVALID ps) w = decode_order_lem c (INVALID ps) w
-decode_writable c wait_short w = decode_order_lem c wait_short w
-decode_writable c WAIT-LONG w = decode_order_lem c WAIT-LONG w
+decode_writable c WAIT_SHORT w = decode_order_lem c WAIT_SHORT w
+decode_writable c WAIT_LONG w = decode_order_lem c WAIT_LONG w
 
 pub decodes_order : (c : ℕ) (o : Order) → DecodesOrder c o
 decodes_order c o = record { decodes = decode_writable c o }
@@ -164,8 +164,8 @@ module _ (b : List ℕ) (h : Bytes b) (fit : length b ≡ order_length b) (m : g
       (λ _. on_cond (Granted P) (eqb k 4) _ _ (λ e. (bare NOTOK e refl refl, c))
       (λ _. on_cond (Granted P) (eqb k 5) _ _ (λ e. (counted NEW 5 e (λ ps. refl) refl (λ ps. refl), c))
       (λ _. on_cond (Granted P) (eqb k 6) _ _ (λ e. (counted INVALID 6 e (λ ps. refl) refl (λ ps. refl), c))
-      (λ _. on_cond (Granted P) (eqb k 7) _ _ (λ e. (bare wait_short e refl refl, c))
-      (λ _. on_cond (Granted P) (eqb k 8) _ none (λ e. (bare WAIT-LONG e refl refl, c)) (λ _. tt))))))))
+      (λ _. on_cond (Granted P) (eqb k 7) _ _ (λ e. (bare WAIT_SHORT e refl refl, c))
+      (λ _. on_cond (Granted P) (eqb k 8) _ none (λ e. (bare WAIT_LONG e refl refl, c)) (λ _. tt))))))))
 
 reads_order : (b : List ℕ) → Bytes b → Granted (λ (s : Sent). (b ≡ encode s.pass s.order) × Writable s.pass s.order) (decode_order b)
 unfolding decode_order sent_with

@@ -14,7 +14,7 @@ use Rattle.laws.specs.Alls.{All, all_mapped, all_unmapped}
 use Rattle.rules.specs.House.{max_pairs, min_answer_room}
 use Rattle.rules.specs.Picture.{Pair, same_pair, holds}
 use Rattle.rules.specs.Event.{ANSWER, two, four, read_pairs, pair_bytes, decode, header, encode_event}
-use Rattle.rules.specs.Order.{Order, ASK, SET, OK, NOTOK, NEW, INVALID, wait_short, WAIT-LONG}
+use Rattle.rules.specs.Order.{Order, ASK, SET, OK, NOTOK, NEW, INVALID, WAIT_SHORT, WAIT_LONG}
 use Rattle.rules.specs.Run.{Sent, sent_with}
 use Rattle.rules.specs.Listing.{found, not_found}
 use Rattle.rules.proofs.Pairs.{same_self, same_eq}
@@ -117,8 +117,8 @@ obeyed_blocks OK ps = refl
 obeyed_blocks NOTOK ps = refl
 obeyed_blocks (NEW qs) ps = refl
 obeyed_blocks (INVALID qs) ps = refl
-obeyed_blocks wait_short ps = refl
-obeyed_blocks WAIT-LONG ps = refl
+obeyed_blocks WAIT_SHORT ps = refl
+obeyed_blocks WAIT_LONG ps = refl
 
 heard_blocks : (u : Slave) (s : Sent) → blocks (heard u s).pairs ≡ blocks u.pairs
 unfolding heard
@@ -203,8 +203,8 @@ not_answered u s f g = go s.order refl
     go NOTOK e = refl
     go (NEW ps) e = refl
     go (INVALID ps) e = refl
-    go wait_short e = refl
-    go WAIT-LONG e = refl
+    go WAIT_SHORT e = refl
+    go WAIT_LONG e = refl
 
 own : (u : Slave) → (eqb u.position u.position && eqb u.address u.address) ≡ true
 own u = and_true (eqb u.position u.position) (eqb u.address u.address) (eq-eqb u.position u.position refl) (eq-eqb u.address u.address refl)
@@ -279,8 +279,8 @@ other_order u s f = go s.order refl
     go NOTOK e = refl
     go (NEW ps) e = refl
     go (INVALID ps) e = refl
-    go wait_short e = refl
-    go WAIT-LONG e = refl
+    go WAIT_SHORT e = refl
+    go WAIT_LONG e = refl
 
 pub obeys : (u : Slave) (b : List ℕ) (room : ℕ) → Obeys u b room
 unfolding refuse_order on_order renumbered

@@ -5,7 +5,7 @@ use Rattle.laws.specs.Lists.{any, select, collect}
 use Rattle.laws.specs.Alls.{All, Pairwise}
 use Rattle.rules.specs.Picture.{Ok, Pair, same_pair, holds, Picture}
 use Rattle.rules.specs.Event.{ANSWER, pair_bytes, decode, encode_event}
-use Rattle.rules.specs.Order.{Order, ASK, SET, OK, NOTOK, NEW, INVALID, wait_short, WAIT-LONG, encode, encode_all}
+use Rattle.rules.specs.Order.{Order, ASK, SET, OK, NOTOK, NEW, INVALID, WAIT_SHORT, WAIT_LONG, encode, encode_all}
 use Rattle.rules.specs.Run.{Sent, sent_with}
 use Rattle.rules.specs.Listing.{Entry, listing, found, not_found}
 use Rattle.rules_unit.specs.Reading.{decode_order, orders_in}
@@ -120,8 +120,8 @@ Writable c OK = c ≤ 4_294_967_295
 Writable c NOTOK = c ≤ 4_294_967_295
 Writable c (NEW ps) = c ≤ 4_294_967_295
 Writable c (INVALID ps) = c ≤ 4_294_967_295
-Writable c wait_short = c ≤ 4_294_967_295
-Writable c WAIT-LONG = c ≤ 4_294_967_295
+Writable c WAIT_SHORT = c ≤ 4_294_967_295
+Writable c WAIT_LONG = c ≤ 4_294_967_295
 
 -- The bytes of an order are read as that order, and no other bytes are.
 pub record DecodesOrder (c : ℕ) (o : Order) : Type 0 where

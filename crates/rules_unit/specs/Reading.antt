@@ -2,7 +2,7 @@
 use Rattle.std.specs.Prelude.{ℕ, zero, suc, ◌+◌, ◌*◌, cond, ◌&&◌, ◌||◌, List, [], ◌∷◌, eqb, length, get_or, take, drop}
 use Rattle.std.proofs.Math.Option.{Option, none, some}
 use Rattle.rules.specs.Event.{be2, be4, read_pairs}
-use Rattle.rules.specs.Order.{Order, ASK, SET, OK, NOTOK, NEW, INVALID, wait_short, WAIT-LONG}
+use Rattle.rules.specs.Order.{Order, ASK, SET, OK, NOTOK, NEW, INVALID, WAIT_SHORT, WAIT_LONG}
 use Rattle.rules.specs.Run.{Sent, sent_with}
 
 -- how many bytes an order has that begins with these, by its kind and count: "mark 4D 4F, kind (1), pass (4). Kinds: 1 ASK + position;
@@ -22,7 +22,7 @@ order_by kind b =
     (cond (eqb kind 4) (some NOTOK)
     (cond (eqb kind 5) (some (NEW (read_pairs (drop 8 b))))
     (cond (eqb kind 6) (some (INVALID (read_pairs (drop 8 b))))
-    (cond (eqb kind 7) (some wait_short) (cond (eqb kind 8) (some WAIT-LONG) none)))))))
+    (cond (eqb kind 7) (some WAIT_SHORT) (cond (eqb kind 8) (some WAIT_LONG) none)))))))
 
 unfoldable pub sent_of : (pass : ℕ) → Option Order → Option Sent
 sent_of n none = none

@@ -5,7 +5,7 @@ use Rattle.laws.specs.Lists.{select}
 use Rattle.rules.specs.House.{max_pairs, max_answers, min_answer_room}
 use Rattle.rules.specs.Picture.{Pair, same_pair, holds}
 use Rattle.rules.specs.Event.{ANSWER, read_pairs, encode_event}
-use Rattle.rules.specs.Order.{Order, ASK, SET, OK, NOTOK, NEW, INVALID, wait_short, WAIT-LONG}
+use Rattle.rules.specs.Order.{Order, ASK, SET, OK, NOTOK, NEW, INVALID, WAIT_SHORT, WAIT_LONG}
 use Rattle.rules.specs.Run.{Sent}
 use Rattle.rules.specs.Listing.{Lookup, found, not_found}
 use Rattle.rules_unit.specs.Reading.{decode_order}
@@ -62,8 +62,8 @@ says_not_ok OK = false
 says_not_ok NOTOK = true
 says_not_ok (NEW ps) = false
 says_not_ok (INVALID ps) = false
-says_not_ok wait_short = false
-says_not_ok WAIT-LONG = false
+says_not_ok WAIT_SHORT = false
+says_not_ok WAIT_LONG = false
 
 unfoldable pub empties : (last : ℕ) → Sent → Bool
 empties last s = says_not_ok s.order || not (eqb s.pass last)
@@ -76,8 +76,8 @@ named OK = []
 named NOTOK = []
 named (NEW ps) = []
 named (INVALID ps) = ps
-named wait_short = []
-named WAIT-LONG = []
+named WAIT_SHORT = []
+named WAIT_LONG = []
 
 unfoldable pub known_after : (last : ℕ) → List Known → Sent → List Known
 known_after last ks s = besides (named s.order) (cond (empties last s) [] ks)
@@ -105,8 +105,8 @@ is_answered u OK = false
 is_answered u NOTOK = false
 is_answered u (NEW ps) = false
 is_answered u (INVALID ps) = false
-is_answered u wait_short = false
-is_answered u WAIT-LONG = false
+is_answered u WAIT_SHORT = false
+is_answered u WAIT_LONG = false
 
 unfoldable pub obeyed : Order → List Pair → List Pair
 obeyed (ASK x) ps = ps
@@ -115,8 +115,8 @@ obeyed OK ps = ps
 obeyed NOTOK ps = ps
 obeyed (NEW qs) ps = ps
 obeyed (INVALID qs) ps = ps
-obeyed wait_short ps = ps
-obeyed WAIT-LONG ps = ps
+obeyed WAIT_SHORT ps = ps
+obeyed WAIT_LONG ps = ps
 
 -- the unit after an order
 unfoldable pub heard : Slave → Sent → Slave

@@ -2,10 +2,10 @@
 // reads, so these are open: that a read is made, and the bytes that it delivers.
 #![tactic(auto)]
 
-ghost use Rattle.std.specs.Prelude.{◌≡◌, ◌+◌, min};
-ghost use Rattle.text_in.specs.Lines.{max_line, unread, kept_at, Filled, NextLine};
+ghost use Rattle.std.specs.Prelude.{◌≡◌, ◌+◌, ◌≤◌, min};
+ghost use Rattle.text_in.specs.Lines.{chunk_size, max_line, unread, kept_at, Filled, NextLine};
 
-use libc::STDIN_FILENO;
+use std::io::{Read, Stdin};
 use text_words::digits;
 
 // How many bytes a read takes, and the longest line.
@@ -41,6 +41,17 @@ fn store(line: &mut [u8; MAX_LINE], seen: usize, byte: u8) -> usize
     seen + 1
 }
 
+// How many bytes a read delivers, at the start of the chunk: none at the input's end, and none where it fails.
+fn delivered(stdin: Stdin, chunk: &mut [u8; CHUNK]) -> usize
+    ensures { result ≤ chunk_size }
+{
+    let mut source = stdin;
+    match source.read(chunk) {
+        Ok(n) => n,
+        Err(_) => 0,
+    }
+}
+
 impl Input {
     // Nothing read yet.
     pub fn new() -> Self
@@ -50,22 +61,21 @@ impl Input {
     }
 
     // With something to use, unless the input has ended. The bytes that a read delivers are open: they come from the system.
-    fn filled(self, chunk: &mut [u8; CHUNK]) -> Input
+    fn filled(self, stdin: Stdin, chunk: &mut [u8; CHUNK]) -> Input
         ensures { Filled self chunk.old result chunk.new }
     {
         if self.from < self.to {
             return self;
         }
-        let got = libc::read(STDIN_FILENO, chunk);
         Input {
             from: 0,
-            to: io::count(got, chunk),
+            to: delivered(stdin, chunk),
         }
     }
 
     // The next line into `line`. A line without LF at the input's end counts where it has a byte. What the system delivers meanwhile
     // is open, and all else follows from it.
-    pub fn line(self, chunk: &mut [u8; CHUNK], line: &mut [u8; MAX_LINE]) -> Line
+    pub fn line(self, stdin: Stdin, chunk: &mut [u8; CHUNK], line: &mut [u8; MAX_LINE]) -> Line
         ensures { NextLine self chunk.old line.old result chunk.new line.new }
     {
         let mut input = self;
@@ -75,7 +85,7 @@ impl Input {
         let mut turns = u64::MAX;
         while 0 < turns {
             turns -= 1;
-            let filled = input.filled(chunk);
+            let filled = input.filled(stdin, chunk);
             let at = filled.from;
             if filled.to <= at {
                 return Line {

@@ -1,5 +1,6 @@
 -- Standard output: what waits in the buffer, and how much, when bytes are put.
 use Rattle.std.specs.Prelude.{ℕ, suc, ◌<◌, ◌≡◌, Bool, true, false, cond, ◌&&◌, List, [], ◌∷◌, ltb, length, set}
+use Rattle.std.specs.declared.rt.Stdout.{Stdout}
 use Rattle.text_out.specs.declared.Output.{Output}
 
 -- how many bytes wait at most
@@ -26,8 +27,8 @@ fits w [] = true
 fits w (b ∷ bs) = ltb w space && fits (suc w) bs
 
 -- nothing waits, and no write has failed
-abbrev pub empty : Output
-empty = record { waiting = 0; closed = false }
+abbrev pub empty : Stdout → Output
+empty stdout = record { waiting = 0; closed = false; stdout = stdout }
 
 -- What putting bytes does. Whether a write fails depends on the system: that is open where a full buffer is written out. A failed
 -- write stays one, and more bytes than the buffer has are never written.

@@ -8,7 +8,7 @@ ghost use Rattle.text_words.specs.Text.{lf};
 ghost use Rattle.text_out.specs.Puts.{space, empty, Puts};
 ghost use Rattle.text_out.specs.Spelling.{lined, hex_of, hex_pair_of, width_of, decimal_of, value_of, filled};
 
-use libc::STDOUT_FILENO;
+use std::io::Stdout;
 use text_words::digits;
 
 // How many bytes wait at most.
@@ -16,31 +16,36 @@ pub const SPACE: usize = 65536;
 
 const LF: u8 = 10;
 
-// How many bytes wait to be written, and whether a write failed.
+// How many bytes wait to be written, whether a write failed, and where it goes.
 #[derive(Clone, Copy)]
 pub struct Output {
     pub waiting: usize,
     pub closed: bool,
+    pub stdout: Stdout,
 }
 
 // Writes the first n bytes; false where a write fails or there are fewer.
-fn write_first(text: &[u8], n: usize) -> bool
+fn write_first(stdout: Stdout, text: &[u8], n: usize) -> bool
     ensures { length text.now < n → result ≡ false }
 {
     if text.len() < n {
         return false;
     }
-    io::write_all(STDOUT_FILENO, &text[0..n])
+    match stdout.write_all(&text[0..n]) {
+        Ok(()) => true,
+        Err(_) => false,
+    }
 }
 
 impl Output {
     // Nothing waits.
-    pub fn new() -> Self
-        ensures { result ≡ empty }
+    pub fn new(stdout: Stdout) -> Self
+        ensures { result ≡ empty stdout }
     {
         Output {
             waiting: 0,
             closed: false,
+            stdout,
         }
     }
 
@@ -54,11 +59,13 @@ impl Output {
             return Output {
                 waiting: 0,
                 closed: true,
+                stdout: self.stdout,
             };
         }
         Output {
             waiting: 0,
-            closed: !write_first(text, n),
+            closed: !write_first(self.stdout, text, n),
+            stdout: self.stdout,
         }
     }
 
@@ -72,6 +79,7 @@ impl Output {
             return Output {
                 waiting: at + 1,
                 closed: self.closed,
+                stdout: self.stdout,
             };
         }
         let next = self.drained(text);
@@ -79,6 +87,7 @@ impl Output {
         Output {
             waiting: 1,
             closed: next.closed,
+            stdout: self.stdout,
         }
     }
 

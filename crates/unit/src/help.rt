@@ -1,10 +1,21 @@
 // What --help says.
-use libc::STDOUT_FILENO;
+use std::env::FillError;
+use std::io::Stdout;
+use std::rt::Env;
 
-// The commands.
-pub(crate) fn write() {
-    io::write_all(
-        STDOUT_FILENO,
+// Whether an argument stands behind the program's name, of any length.
+pub(crate) fn is_asked_for(rt: HostRuntime) -> bool {
+    let mut first = [0u8; 1];
+    match rt.arg(1, &mut first) {
+        Ok(_) => true,
+        Err(FillError::TooLong) => true,
+        Err(FillError::NotPresent) => false,
+    }
+}
+
+// The commands. A failed write changes nothing.
+pub(crate) fn write(stdout: Stdout) {
+    let _ = stdout.write_all(
         b"unit: plays a unit of a MOST ring to a master, from a bench script on standard input.
 
   < HEX                       offers an order: = read and the unit's answer, or a refusal

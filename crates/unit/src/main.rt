@@ -294,7 +294,7 @@ fn turn(
 }
 
 // The script, line by line, up to its end or to a failed write.
-fn play() {
+fn play(rt: HostRuntime) {
     let mut chunk = [0u8; CHUNK];
     let mut line = [0u8; MAX_LINE];
     let mut text = [0u8; SPACE];
@@ -309,14 +309,14 @@ fn play() {
     let mut bench = Bench {
         unit,
         room: MIN_ANSWER_ROOM,
-        output: Output::new(),
+        output: Output::new(rt.stdout()),
     };
     let mut input = Input::new();
     // A loop has to end; no script is as long as this.
     let mut turns = u64::MAX;
     while 0 < turns {
         turns -= 1;
-        let read = input.line(&mut chunk, &mut line);
+        let read = input.line(rt.stdin(), &mut chunk, &mut line);
         if !read.present {
             return;
         }
@@ -329,10 +329,10 @@ fn play() {
     }
 }
 
-fn main() {
-    if 1 < os::arg_count() {
-        help::write();
+fn main(rt: HostRuntime) {
+    if help::is_asked_for(rt) {
+        help::write(rt.stdout());
         return;
     }
-    play();
+    play(rt);
 }

@@ -17,8 +17,8 @@ order_of orders.Ok b = some rules.OK
 order_of orders.NotOk b = some rules.NOTOK
 order_of orders.New b = some (rules.NEW (read_pairs (drop 8 b)))
 order_of orders.Invalid b = some (rules.INVALID (read_pairs (drop 8 b)))
-order_of orders.WaitShort b = some rules.wait_short
-order_of orders.WaitLong b = some rules.WAIT-LONG
+order_of orders.WaitShort b = some rules.WAIT_SHORT
+order_of orders.WaitLong b = some rules.WAIT_LONG
 
 -- bytes that are no order
 abbrev pub no_order : Order

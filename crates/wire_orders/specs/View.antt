@@ -2,7 +2,7 @@
 use Rattle.std.specs.Prelude.{ℕ, ◌+◌, ◌*◌, List, ◌∷◌, drop}
 use Rattle.rules.specs.Picture.{Pair}
 use Rattle.rules.specs.Event.{four}
-use Rattle.rules.specs.Order.{Order, OK, NOTOK, NEW, INVALID, wait_short, WAIT-LONG}
+use Rattle.rules.specs.Order.{Order, OK, NOTOK, NEW, INVALID, WAIT_SHORT, WAIT_LONG}
 use Rattle.wire_pairs.specs.View.{pairs_from}
 use Rattle.wire_orders.specs.declared.Notice.{Notice}
 use Rattle.wire_orders.specs.declared.Notice.TheVariants as notices
@@ -13,8 +13,8 @@ use Rattle.wire_orders.specs.declared.Delta.TheVariants as deltas
 abbrev pub notice_of : Notice → Order
 notice_of notices.Ok = OK
 notice_of notices.NotOk = NOTOK
-notice_of notices.WaitShort = wait_short
-notice_of notices.WaitLong = WAIT-LONG
+notice_of notices.WaitShort = WAIT_SHORT
+notice_of notices.WaitLong = WAIT_LONG
 
 -- an order that lists pairs
 abbrev pub delta_of : Delta → List Pair → Order

@@ -1,6 +1,5 @@
 -- `copy8` moves two words.
 use native.Mathlib.Omega.{arith}
-use borrow.Author.Rules.{rules}
 use Rattle.tel_head.proofs.Words.{two_words}
 use Rattle.tel_head.proofs.copy8.Goals as goal
 

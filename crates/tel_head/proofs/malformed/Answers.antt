@@ -1,7 +1,6 @@
 -- `malformed` is the rules' test: one case for each return.
 use mathlib.Core.Path.{sym}
 use borrow.Author.Tests.{lt-ltb, le-ltb, lt-leb, le-leb, eq-eqb, ne_eqb}
-use borrow.Author.Rules.{rules}
 use Rattle.rules.specs.Telegram.{malformed}
 use Rattle.tel_head.proofs.malformed.Goals as goal
 

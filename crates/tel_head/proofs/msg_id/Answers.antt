@@ -1,7 +1,6 @@
 -- `msg_id` is the first four bytes: two words, by shift.
 use Rattle.laws.specs.Bits.{shift_or}
 use Rattle.rules.specs.Event.{be2, be4}
-use borrow.Author.Rules.{rules}
 use native.Mathlib.Omega.{arith}
 use Rattle.tel_head.proofs.msg_id.Goals as goal
 

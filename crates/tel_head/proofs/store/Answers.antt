@@ -1,10 +1,8 @@
 -- `store` copies the part: what is left to copy, stored from here on, gives the whole copy at every turn.
-use Prim.Native.Nat.{◌+◌, ◌-◌, ◌%◌, ◌≤◌}
+use Prim.Native.Nat.{◌+◌}
 use mathlib.Core.Path.{◌≡◌, refl, sym, ◌∙◌}
 use native.Mathlib.Omega.{arith}
-use borrow.Author.Rules.{rules}
-use lib.ListN.{length, drop, length-set}
-use lib.Seq.{sets}
+use lib.ListN.{length-set}
 use Rattle.laws.specs.Buffers.{copy_on, copy_end}
 use Rattle.tel_head.proofs.Words.{run_on}
 use Rattle.tel_head.proofs.store.Goals as goal

@@ -1,12 +1,8 @@
 -- `store` copies the part: what is left to copy, stored from here on, gives the whole copy at every turn.
 use Prim.Native.Nat.{◌+◌, ◌-◌, ◌%◌, ◌≤◌}
-use mathlib.Core.Path.{◌≡◌, refl, sym, ◌∙◌}
-use native.Mathlib.Omega.{arith}
-use borrow.Author.Rules.{rules}
-use lib.ListN.{length, drop, length-set}
+use mathlib.Core.Path.{◌≡◌}
+use lib.ListN.{length, drop}
 use lib.Seq.{sets}
-use Rattle.laws.specs.Buffers.{copy_on, copy_end}
-use Rattle.tel_head.proofs.Words.{run_on}
 use Rattle.tel_head.proofs.store.Given as goal
 
 abbrev pub invariant-loop-i : goal.invariant-loop-i

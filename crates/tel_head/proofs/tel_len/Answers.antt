@@ -1,6 +1,5 @@
 -- `tel_len` is the low half of byte 4 and byte 5.
 use native.Mathlib.Omega.{arith}
-use borrow.Author.Rules.{rules}
 use lib.Bits.{and_mask}
 use Rattle.rules.specs.Telegram.{tel_len_of}
 use Rattle.tel_head.proofs.tel_len.Goals as goal

@@ -1,7 +1,6 @@
 -- `write_head` stores the MsgID, and behind it the two other bytes of the head.
 use Rattle.rules.specs.Event.{four, two}
 use Rattle.rules.specs.Telegram.{head_bytes}
-use borrow.Author.Rules.{rules}
 use lib.ListN.{set}
 use Rattle.tel_head.proofs.write_head.Goals as goal
 

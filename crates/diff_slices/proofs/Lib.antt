@@ -1,2 +1,0 @@
--- Steps that the walks by hand share.
-pub mod Walking

@@ -1,0 +1,68 @@
+-- By the limit, then by the pass.
+use Prim.Native.Nat.{ℕ, ◌<◌, ◌≤◌}
+use Rattle.registry.proofs.Conflicts.{conflict_9, conflict_limit, conflict_restart}
+use Rattle.registry.proofs.Doing.{along, refuses}
+use Rattle.registry.proofs.Places.{inside}
+use Rattle.registry.specs.Outcome.{conflict_outcome, ignore_outcome, restart_outcome}
+use Rattle.registry.specs.View.{view_of}
+use Rattle.registry.specs.declared.image.RegistryImage.{RegistryImage}
+use Rattle.ring_entries.specs.Verdicts.{verdict_of}
+use Rattle.rules.specs.House.{max_pass}
+use Rattle.rules.specs.Run.{Outcome, written}
+use Rattle.rules.specs.Step.{Verdict}
+use borrow.Author.Rules.{rules}
+use lib.ListN.{length}
+use mathlib.Core.Bool.{true, false}
+use mathlib.Core.Path.{◌≡◌, subst}
+use Rattle.registry.proofs.image.RegistryImage.conflict.Goals as goal
+
+pub reaches_limit-requires : goal.reaches_limit-requires
+reaches_limit-requires c =
+    inside c.args.self c.args.position.0 c.requires.0
+
+pub ignore-requires : goal.ignore-requires
+ignore-requires c =
+    let image : RegistryImage = c.args.self in
+    let position : ℕ = c.args.position.0 in
+    let address : ℕ = c.args.address.0 in
+    let verdict : Verdict = verdict_of c.args.verdict in
+    let ignores : c.reaches_limit.result ≡ true → conflict_outcome (verdict) (view_of (image)) (position) (address) ≡ ignore_outcome (verdict) (view_of (image)) (position) (address) = conflict_limit (image) (position) c.requires.0 (address) (verdict) c.reaches_limit.ensures in
+    let room : (o : Outcome) → conflict_outcome (verdict) (view_of (image)) (position) (address) ≡ o → length (written o) ≤ length c.args.out.now = λ o e. subst (λ (o : Outcome). length (written o) ≤ length c.args.out.now) e c.requires.2 in
+    (c.requires.0, c.requires.1, room _ (ignores c.if-reaches_limit.true))
+
+pub returns-then-reaches_limit : goal.returns-then-reaches_limit
+returns-then-reaches_limit c =
+    let image : RegistryImage = c.args.self in
+    let position : ℕ = c.args.position.0 in
+    let address : ℕ = c.args.address.0 in
+    let verdict : Verdict = verdict_of c.args.verdict in
+    let ignores : c.reaches_limit.result ≡ true → conflict_outcome (verdict) (view_of (image)) (position) (address) ≡ ignore_outcome (verdict) (view_of (image)) (position) (address) = conflict_limit (image) (position) c.requires.0 (address) (verdict) c.reaches_limit.ensures in
+    along (ignores c.if-reaches_limit.true) c.ignore.ensures
+
+pub returns-then-self-ge-MAX_PASS : goal.returns-then-self-ge-MAX_PASS
+returns-then-self-ge-MAX_PASS c =
+    let image : RegistryImage = c.args.self in
+    let position : ℕ = c.args.position.0 in
+    let address : ℕ = c.args.address.0 in
+    let verdict : Verdict = verdict_of c.args.verdict in
+    let e = conflict_9 (image) (position) c.requires.0 (address) (verdict) c.reaches_limit.ensures c.if-reaches_limit.false c.if-self-ge-MAX_PASS.true in
+    refuses c.args.out.now 9 e c.refuse.ensures
+
+pub restart-requires : goal.restart-requires
+restart-requires c =
+    let image : RegistryImage = c.args.self in
+    let position : ℕ = c.args.position.0 in
+    let address : ℕ = c.args.address.0 in
+    let verdict : Verdict = verdict_of c.args.verdict in
+    let restarts : c.reaches_limit.result ≡ false → (image).pass < max_pass → conflict_outcome (verdict) (view_of (image)) (position) (address) ≡ restart_outcome (verdict) (view_of (image)) (position) (address) = conflict_restart (image) (position) c.requires.0 (address) (verdict) c.reaches_limit.ensures in
+    let room : (o : Outcome) → conflict_outcome (verdict) (view_of (image)) (position) (address) ≡ o → length (written o) ≤ length c.args.out.now = λ o e. subst (λ (o : Outcome). length (written o) ≤ length c.args.out.now) e c.requires.2 in
+    (c.requires.0, c.if-self-ge-MAX_PASS.false, room _ (restarts c.if-reaches_limit.false c.if-self-ge-MAX_PASS.false))
+
+pub returns : goal.returns
+returns c =
+    let image : RegistryImage = c.args.self in
+    let position : ℕ = c.args.position.0 in
+    let address : ℕ = c.args.address.0 in
+    let verdict : Verdict = verdict_of c.args.verdict in
+    let restarts : c.reaches_limit.result ≡ false → (image).pass < max_pass → conflict_outcome (verdict) (view_of (image)) (position) (address) ≡ restart_outcome (verdict) (view_of (image)) (position) (address) = conflict_restart (image) (position) c.requires.0 (address) (verdict) c.reaches_limit.ensures in
+    along (restarts c.if-reaches_limit.false c.if-self-ge-MAX_PASS.false) c.restart.ensures

@@ -1,0 +1,30 @@
+-- ASKs, then the ending.
+use Rattle.registry.proofs.Scanning.{scan_room, scan_room_2, scans}
+use Rattle.ring_state.specs.State.{runs, state_of}
+use Rattle.registry.specs.View.{view_of}
+use Rattle.rules.specs.Picture.{NotOk}
+use Rattle.rules.specs.Step.{scanned}
+use borrow.Author.Rules.{rules}
+use mathlib.Core.Bool.{false}
+use mathlib.Core.Path.{refl}
+use native.Mathlib.Numerals.{add-one}
+use native.Mathlib.Omega.{arith}
+use Rattle.registry.proofs.image.RegistryImage.scan.Goals as goal
+
+pub write_asks-end-requires : goal.write_asks-end-requires
+unfolding view_of
+write_asks-end-requires c =
+    scan_room (view_of c.args.self) (scanned (view_of c.args.self).rows (view_of c.args.self)) (add-one c.args.self.pass) refl c.args.out.now c.args.at c.requires.1
+
+pub finish-requires : goal.finish-requires
+unfolding view_of scanned state_of runs
+finish-requires c =
+    let p = view_of c.args.self in scan_room_2 p _ (add-one c.args.self.pass) (λ i. record { state = NotOk; pass = add-one c.args.self.pass i; size = c.args.self.size; delay = false; rows = p.rows }) c.write_asks-end.ensures c.requires.1
+
+pub returns : goal.returns
+unfolding view_of scanned state_of runs
+returns c =
+    let p = view_of c.args.self in (
+      scans p _ (add-one c.args.self.pass) (λ i. record { state = NotOk; pass = add-one c.args.self.pass i; size = c.args.self.size; delay = false; rows = p.rows }) c.write_asks-end.ensures refl c.finish.ensures.0,
+      λ m. c.finish.ensures.1 (record { state = omega arith; delay = omega arith; units = m.units; entries = m.entries }),
+    )

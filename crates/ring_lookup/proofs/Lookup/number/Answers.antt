@@ -1,0 +1,14 @@
+-- By the answer.
+use Rattle.rules.specs.Listing.{lookup_number}
+use borrow.Author.Rules.{rules}
+use mathlib.Core.Path.{refl}
+use Rattle.ring_lookup.proofs.Lookup.number.Goals as goal
+
+pub returns-in-Refused : goal.returns-in-Refused
+unfolding lookup_number
+returns-in-Refused c =
+    rw c.in-Refused.is refl
+
+pub returns-in-Found : goal.returns-in-Found
+unfolding lookup_number
+returns-in-Found c = rw c.in-Found.is refl

@@ -1,0 +1,8 @@
+-- An opened state has the message that it is made of.
+use mathlib.Core.Path.{refl}
+use Rattle.tel_join_state.specs.Answers.{joining_of, state_of}
+use Rattle.tel_join_state.proofs.Reassembly.opened.Goals as goal
+
+pub returns : goal.returns
+unfolding joining_of state_of
+returns c = (refl, refl)

@@ -1,0 +1,7 @@
+-- The number, and then what it means.
+use Rattle.text_out.specs.Putting.{puts_append, puts_along}
+use Rattle.text_answers.proofs.Parts.{refusal_is}
+use Rattle.text_answers.proofs.refusal.Goals as goal
+
+pub returns : goal.returns
+returns c = puts_along (refusal_is _ _) (puts_append c.form-next.ensures c.meaning.ensures)

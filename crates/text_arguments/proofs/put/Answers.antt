@@ -1,0 +1,7 @@
+-- A byte without room changes nothing.
+use mathlib.Core.Path.{sym}
+use lib.Seq.{set_out}
+use Rattle.text_arguments.proofs.put.Goals as goal
+
+pub returns-else-at-bytes : goal.returns-else-at-bytes
+returns-else-at-bytes c = sym (set_out _ _ _ c.if-at-bytes.false)

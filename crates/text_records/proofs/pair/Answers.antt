@@ -1,0 +1,10 @@
+-- Blank, block, dot and number, one behind the other.
+use Rattle.text_out.specs.Putting.{puts_append}
+use Rattle.text_out.specs.Spelling.{hex_of}
+use Rattle.text_records.specs.Fields.{pair_word}
+use Rattle.text_records.proofs.pair.Goals as goal
+
+pub returns : goal.returns
+unfolding pair_word hex_of
+returns c =
+    puts_append c.byte-blank.ensures (puts_append c.hex-left.ensures (puts_append c.byte-dot.ensures c.hex.ensures))

@@ -1,0 +1,9 @@
+-- The pairs as they are renumbered.
+use Rattle.unit_slave.proofs.Hearing.{announces}
+use Rattle.unit_slave.specs.View.{slave_of}
+use borrow.Author.Rules.{rules}
+use Rattle.unit_slave.proofs.NetworkSlave.renumbered.Goals as goal
+
+pub returns : goal.returns
+unfolding slave_of
+returns c = announces c.args.self c.renumbered-next.result _ c.renumbered-next.ensures

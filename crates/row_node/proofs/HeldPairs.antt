@@ -6,7 +6,6 @@ use native.Mathlib.Omega.{arith}
 use lib.ListN.{length}
 use Rattle.rules.specs.House.{max_pairs}
 use Rattle.rules.specs.Picture.{Pair}
-use Rattle.rules_diff.specs.Differences as rules
 use Rattle.wire_pairs.specs.View.{pairs_from}
 use Rattle.wire_pairs.proofs.Arrays.{pairs_min}
 use Rattle.row_entry.specs.declared.NodeEntry.{NodeEntry}

@@ -13,7 +13,7 @@ use Rattle.laws.specs.Lists.{any, collect}
 use Rattle.laws.specs.Bools.{or_left, or_right, or_false, or_true_left, or_true_right, on_cond}
 use Rattle.laws.specs.Alls.{All, all_nil, all_cons, all_append, all_map, all_in, all_everywhere, all_collect, any_none, none_any, any_drop, all_mapped, all_of}
 use Rattle.rules.specs.House.{max_tries, max_silences}
-use Rattle.rules.specs.Picture.{Pair, same_pair, holds, Row, Picture, with_rows, with_state, with_delay, Kept, kept, kept_by, pairs_of, pairs_in, has_address, keeps, no_row, row_at, is_open, is_ok, is_silent, Seat, seat_at, others, put}
+use Rattle.rules.specs.Picture.{Pair, same_pair, holds, Row, Picture, with_rows, with_state, with_delay, Kept, kept_by, pairs_of, pairs_in, has_address, keeps, no_row, row_at, is_open, is_ok, is_silent, Seat, seat_at, others, put}
 use Rattle.rules.specs.Event.{Event, START, NCE, SHUTDOWN, ANSWER, NONE, DELAY, decode}
 use Rattle.rules.specs.Order.{Order, ASK, OK, NOTOK, NEW, INVALID, WAIT_SHORT, WAIT_LONG}
 use Rattle.rules.specs.Renumber.{Judged, is_good, judge, goods, free_number, Renumbering, finished, renumbers, offer, renumber_from, renumber, place_of, tries_of}

@@ -18,7 +18,7 @@ use Rattle.laws.specs.Sums.{total_at}
 use Rattle.rules.specs.House.{min_room, max_nodes, max_pairs, max_tries}
 use Rattle.rules.specs.Picture.{State, Off, NotOk, Ok, is_not_ok, is_ok, Status, WAITING, SETTING, LISTED, SILENT, IGNORED, Row, Picture, with_state, with_delay, with_rows, is_open, is_open_status, is_ignored, is_ignored_status, new_row, no_row, row_at, open_at, fresh, seat_at, put}
 use Rattle.rules.specs.Event.{Event, START, NCE, SHUTDOWN, ANSWER, NONE, DELAY, decode, encode_event, header, four, two}
-use Rattle.rules.specs.Step.{Change, Response, change, refuse_if, scanned, scan, begin, rescanned, rescan, change_rows, silenced, keep_answer, takes, no_position, respond}
+use Rattle.rules.specs.Step.{Change, Response, change, scanned, scan, begin, rescanned, rescan, change_rows, silenced, keep_answer, takes, no_position, respond}
 use Rattle.rules.specs.Ending.{becomes_ok, settled, ended, picture_of}
 use Rattle.rules.specs.Run.{Outcome, on_event, on_decoded, concluded, step, Record, offered, left, sent_by, Sent, next, after, history}
 use Rattle.rules.specs.Claims.{Exists8, if_taken, accepted, is_reply, count_reply, replies_in, picture_at, sent_at, record_at, replies_between, way_state, Awaits, Arrived, Names, Allowed, bound, Reaches, arrives, holds_fewer, Demand3}

@@ -21,7 +21,7 @@ use Rattle.rules.specs.Claims.{Allowed}
 use Rattle.rules.specs.House.{max_pairs, max_tries, max_bad}
 use Rattle.rules.specs.Picture.{Pair, Status, WAITING, SETTING, LISTED, SILENT, IGNORED, Row, Picture, with_status, with_rows}
 use Rattle.rules.specs.Picture.{is_open, is_open_status, is_ignored, is_ignored_status, new_row, row_at, open_at, Seat, seat_at, others, put, pairs_in}
-use Rattle.rules.specs.Step.{Change, change, respond, begin, scan, scanned, rescan, rescanned, shut_down, change_rows, delay_ends, keep_answer, silenced, ignored, counted, at_limit, on_counted, emptied, status_after, judged_for, renumbering_for, listed_row}
+use Rattle.rules.specs.Step.{Change, change, respond, scan, scanned, change_rows, keep_answer, silenced, ignored, counted, at_limit, on_counted, emptied, status_after, judged_for, renumbering_for, listed_row}
 use Rattle.rules.specs.Renumber.{Judged, judge, Renumbering, goods, free_number, finished, renumbers, offer, renumber_from, renumber, place_of, tries_of}
 
 -- how many answers a question can still take in this pass

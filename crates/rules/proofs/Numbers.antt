@@ -16,7 +16,6 @@ use Rattle.rules.specs.House.{min_size, min_room, max_pass, max_payload}
 use Rattle.rules.specs.Picture.{Ok, is_ok, Pair, same_pair, Row, Picture, legal_size, fresh, fresh_number, Seat, keeps, seat_at, others}
 use Rattle.rules.specs.Event.{Event, START, NCE, SHUTDOWN, ANSWER, NONE, DELAY, be4, decode}
 use Rattle.rules.specs.Renumber.{is_in}
-use Rattle.rules.specs.Order.{NOTOK}
 use Rattle.rules.specs.Step.{Response, refuse, change, refuse_if, network_change, Verdict, barred, outside, duplicate, changed, fine, verdict, nobody, counted, at_limit, conflict, answer, not_taken, respond}
 use Rattle.rules.specs.Run.{Outcome, refused, taken, on_event, on_decoded, concluded, step, Record, offered, left, after, next}
 use Rattle.rules.specs.Listing.{Entry, Lookup, found, not_found, first_of, listing, look_up}

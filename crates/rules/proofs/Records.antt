@@ -1,24 +1,24 @@
 -- One record: the orders fit, a refusal changes nothing, orders carry the pass after the event.
-use Prim.Native.Nat.{ℕ, zero, suc, ◌*◌, ◌≤◌}
+use Prim.Native.Nat.{ℕ, zero, suc, ◌≤◌}
 use mathlib.Core.Path.{◌≡◌, refl, ◌∙◌, ap}
 use mathlib.Core.Bool.{not}
 use mathlib.Core.List.{List, [], ◌∷◌, ◌++◌, map}
 use native.Mathlib.Omega.{arith}
 use borrow.Author.Tests.{lt-ltb, le-ltb, ne_eqb}
-use lib.ListN.{length, length-append, length-map}
+use lib.ListN.{length}
 use Rattle.laws.specs.Buffers.{sets_start}
 use Rattle.rules.specs.House.{min_room, max_pairs}
-use Rattle.rules.specs.Listing.{entries_of, entries_from, listing}
+use Rattle.rules.specs.Listing.{listing}
 use Rattle.laws.specs.Lists.{collect}
-use Rattle.laws.specs.Alls.{All, all_nil, all_cons, all_head, all_tail, all_everywhere}
-use Rattle.rules.specs.Picture.{Picture, Row, Kept, nothing, kept, kept_by, kept_in, pairs_in, no_row, row_at}
+use Rattle.laws.specs.Alls.{All, all_nil, all_cons, all_everywhere}
+use Rattle.rules.specs.Picture.{Picture, Row, kept_by, pairs_in, no_row, row_at}
 use Rattle.rules.specs.Event.{Event, START, NCE, SHUTDOWN, ANSWER, NONE, DELAY}
 use Rattle.rules.specs.Order.{Order, encode, encode_all}
 use Rattle.rules.specs.Step.{refuse, respond}
 use Rattle.rules.specs.Run.{Outcome, refused, taken, on_event, on_decoded, concluded, step, Record, offered, left, Sent, sent_with, sent_by, written, lent}
 use Rattle.rules.specs.Claims.{picture_at, record_at, Fits, Bounds, OfAnotherPass, Checks, Refusal, Carried}
 use Rattle.rules.proofs.Ways.{refuse_if_true, refuse_if_false, Offered, was_refused, was_taken, offered_cases}
-use Rattle.rules.proofs.Sound.{Sound, Proper, RowProper}
+use Rattle.rules.proofs.Sound.{Sound, RowProper}
 use Rattle.rules.proofs.Decode.{formed}
 use Rattle.rules.proofs.Sizes.{encode_all_size, largest, size_largest, row_few, listing_size}
 use Rattle.rules.proofs.Demand3.{running_at}

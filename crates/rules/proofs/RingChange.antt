@@ -18,7 +18,7 @@ use Rattle.rules.specs.Order.{Order, ASK, OK, NOTOK, INVALID}
 use Rattle.rules.specs.Step.{Change, rows_separately, across_rows, change, refuse_if, asks, scanned, scan, begin, rescanned, rescan, network_change, takes, respond}
 use Rattle.rules.specs.Listing.{listed_pairs}
 use Rattle.rules.specs.Ending.{becomes_ok, settled, ok_order, packed, tell, told_by, told, waits, wait_order, ended, end_orders, orders_of, picture_of}
-use Rattle.rules.specs.Run.{Outcome, taken, on_event, on_decoded, concluded, step, Record, offered, after}
+use Rattle.rules.specs.Run.{taken, on_event, on_decoded, concluded, step, Record, offered, after}
 use Rattle.rules.specs.Claims.{Full, no_order_lem, last_order, full_order, begun, Begins, KeepsOk, RingChange}
 use Rattle.rules.proofs.Ways.{refuse_if_false}
 use Rattle.rules.proofs.Along.{along}

@@ -4,7 +4,7 @@ use Rattle.laws.specs.Lists.{collect, up_from}
 use Rattle.rules.specs.Picture.{NotOk, Ok, WAITING, LISTED, SILENT}
 use Rattle.rules.specs.Run.{Record}
 use Rattle.rules.specs.Listing.{not_found, found}
-use Rattle.rules.specs.Table.{hex, with_room, gives, no_orders, refusal, entry, records, records_from, picture_after, listing_after, look_up_after, results, picture, listing, look_up, Edge, edge}
+use Rattle.rules.specs.Table.{hex, with_room, gives, no_orders, refusal, records, records_from, picture_after, listing_after, look_up_after, results, picture, listing, look_up, Edge, edge}
 use Rattle.rules.specs.Corners.{unit}
 
 -- three rows with three, four and one pair; then the third announces a pair that the first keeps, and is renumbered: SETTING, in OK

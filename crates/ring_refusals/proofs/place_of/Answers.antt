@@ -2,7 +2,6 @@
 use Prim.Native.Nat.{◌-◌}
 use Rattle.rules.specs.House.{max_units}
 use Rattle.ring_refusals.specs.Numbers.{place_in}
-use borrow.Author.Rules.{rules}
 use borrow.Author.Tests.{eq-eqb, le-ltb, lt-ltb, ne_eqb}
 use lib.Dec.{ltb}
 use mathlib.Core.Bool.{Bool, cond}

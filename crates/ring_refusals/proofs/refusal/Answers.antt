@@ -8,7 +8,6 @@ use Rattle.ring_refusals.specs.Numbers.{refusal_of}
 use Rattle.ring_state.specs.State.{state_of}
 use Rattle.rules.specs.Picture.{NotOk, Off, Ok, State}
 use Rattle.rules.specs.Step.{not_taken}
-use borrow.Author.Rules.{rules}
 use lib.ListN.{get_or}
 use mathlib.Core.List.{List, [], ◌∷◌}
 use mathlib.Core.Path.{◌∙◌, ap, sym}

@@ -6,7 +6,6 @@ use Rattle.wire_events.specs.declared.Event.{Event}
 use Rattle.ring_refusals.specs.Numbers.{or_else, reply_refusal}
 use mathlib.Core.List.{[]}
 use mathlib.Core.Path.{◌∙◌, ap, sym}
-use borrow.Author.Rules.{rules}
 use Rattle.ring_refusals.proofs.reply_refusal.Goals as goal
 
 pub returns-in-Malformed : goal.returns-in-Malformed

@@ -5,7 +5,6 @@ use Rattle.ring_refusals.specs.Numbers.{seat_in}
 use mathlib.Core.List.{[]}
 use mathlib.Core.Path.{◌∙◌, ap, sym}
 use native.Mathlib.Omega.{arith}
-use borrow.Author.Rules.{rules}
 use Rattle.ring_refusals.proofs.seat_of.Goals as goal
 
 pub returns-in-Malformed : goal.returns-in-Malformed

@@ -4,7 +4,6 @@ use Rattle.ring_refusals.specs.Numbers.{seat_refusal}
 use Rattle.rules.specs.House.{max_units}
 use Rattle.rules.specs.Picture.{is_ignored}
 use Prim.Native.Nat.{ℕ, min}
-use borrow.Author.Rules.{rules}
 use borrow.Author.Tests.{eq-eqb, le-ltb, lt-ltb, ne_eqb}
 use lib.Dec.{eqb, ltb}
 use mathlib.Core.Bool.{Bool, cond, not}

@@ -1,5 +1,4 @@
 -- By the entry's question.
-use borrow.Author.Rules.{rules}
 use mathlib.Core.Bool.{Bool, cond, not}
 use mathlib.Core.Path.{◌∙◌, ap, sym}
 use Rattle.ring_refusals.proofs.unexpected.Goals as goal

@@ -1,7 +1,6 @@
 -- Length, mark and kind, in the code's order.
 use Rattle.rules.specs.Event.{decode, decode_plain}
 use Prim.Native.Nat.{ℕ}
-use borrow.Author.Rules.{rules}
 use borrow.Author.Tests.{eq-eqb, le-leb, lt-leb, ne_eqb}
 use lib.ListN.{get_or}
 use mathlib.Core.Path.{◌∙◌, ap}

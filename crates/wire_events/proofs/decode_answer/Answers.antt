@@ -3,7 +3,6 @@ use Rattle.rules.specs.Event.{ANSWER, bad_block, be2}
 use mathlib.Core.Option.{some}
 use Rattle.laws.specs.Lists.{any}
 use Rattle.wire_events.proofs.Readings.{bad_block_lem, many_pairs, well_formed, wrong_length}
-use borrow.Author.Rules.{rules}
 use lib.ListN.{get_or}
 use mathlib.Core.Path.{◌∙◌, ap, sym}
 use native.Mathlib.Omega.{arith}

@@ -1,6 +1,5 @@
 -- One test of x.
 use Rattle.rules.specs.Event.{check}
-use borrow.Author.Rules.{rules}
 use borrow.Author.Tests.{eq-eqb, ne_eqb}
 use Rattle.wire_events.proofs.decode_delay.Goals as goal
 

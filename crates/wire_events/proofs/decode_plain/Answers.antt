@@ -1,6 +1,5 @@
 -- By the kind.
 use Rattle.rules.specs.Event.{check, decode_plain}
-use borrow.Author.Rules.{rules}
 use borrow.Author.Tests.{eq-eqb, ne_eqb}
 use mathlib.Core.Path.{◌∙◌, sym}
 use Rattle.wire_events.proofs.decode_plain.Goals as goal

@@ -1,15 +1,11 @@
 -- A search: what is left to look at decides.
-use Rattle.wire_pairs.specs.View.{pair_of, pairs_of}
+use Rattle.wire_pairs.specs.View.{pairs_of}
 use Prim.Native.Nat.{◌-◌, ◌≤◌}
 use Rattle.laws.specs.Lists.{any}
-use Rattle.laws.specs.Views.{any_empty, any_here, any_skip}
-use Rattle.wire_pairs.proofs.Arrays.{pairs_here, pairs_past}
 use Rattle.rules.specs.House.{max_pairs}
 use Rattle.rules.specs.Event.{bad_block}
-use borrow.Author.Rules.{rules}
 use lib.ListN.{drop, length}
-use mathlib.Core.Path.{◌∙◌, ◌≡◌, refl, sym}
-use native.Mathlib.Omega.{arith}
+use mathlib.Core.Path.{◌≡◌}
 use Rattle.wire_events.proofs.has_bad_block.Given as goal
 
 abbrev pub invariant-loop-i : goal.invariant-loop-i

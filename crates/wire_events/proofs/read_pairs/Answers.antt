@@ -2,13 +2,10 @@
 use Rattle.laws.specs.Views.{firsts}
 use Rattle.wire_pairs.proofs.Arrays.{pairs_push}
 use Rattle.wire_pairs.specs.View.{pairs_from, pairs_of}
-use Prim.Native.Nat.{ℕ, ◌*◌, ◌+◌, ◌-◌, ◌≤◌}
+use Prim.Native.Nat.{ℕ, ◌*◌, ◌+◌}
 use Rattle.wire_events.proofs.Readings.{from_start, read_end, read_on}
-use Rattle.rules.specs.House.{max_pairs}
-use Rattle.rules.specs.Event.{read_pairs}
 use borrow.Author.Rules.{rules}
-use lib.ListN.{drop, length, length-set}
-use mathlib.Core.List.{◌++◌}
+use lib.ListN.{length-set}
 use mathlib.Core.Path.{◌≡◌, ◌∙◌, ap, refl}
 use native.Mathlib.Omega.{arith}
 use Rattle.wire_events.proofs.read_pairs.Goals as goal

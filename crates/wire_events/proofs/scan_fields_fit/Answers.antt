@@ -1,5 +1,4 @@
 -- The pass first, then the number of nodes.
-use borrow.Author.Rules.{rules}
 use borrow.Author.Tests.{eq-eqb, ne_eqb}
 use Rattle.wire_events.proofs.scan_fields_fit.Goals as goal
 

@@ -1,5 +1,4 @@
 -- The remainder by 256, by mask.
-use Rattle.rules.proofs.Records.{fits}
 use lib.Bits.{and_mask, mask_lt}
 use Rattle.wire_octets.proofs.low.Goals as goal
 

@@ -2,7 +2,6 @@
 use Prim.Native.Nat.{◌+◌}
 use Rattle.laws.specs.Bits.{shift_or}
 use Rattle.rules.specs.Event.{be2, be4}
-use borrow.Author.Rules.{rules}
 use mathlib.Core.Path.{◌≡◌}
 use native.Mathlib.Omega.{arith}
 use Rattle.wire_octets.proofs.read4.Goals as goal

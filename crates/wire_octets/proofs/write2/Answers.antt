@@ -1,6 +1,5 @@
 -- The high byte, then the low one.
 use Rattle.rules.specs.Event.{two}
-use borrow.Author.Rules.{rules}
 use lib.ListN.{length-set}
 use lib.Seq.{sets}
 use mathlib.Core.List.{[], ◌∷◌}

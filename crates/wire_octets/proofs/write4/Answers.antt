@@ -2,7 +2,6 @@
 use Prim.Native.Nat.{◌+◌, ◌/◌, ℕ}
 use Rattle.laws.specs.Buffers.{sets_append}
 use Rattle.rules.specs.Event.{four, two}
-use borrow.Author.Rules.{rules}
 use lib.Seq.{sets}
 use mathlib.Core.List.{List}
 use mathlib.Core.Path.{◌∙◌, ap}

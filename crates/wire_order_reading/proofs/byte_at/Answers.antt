@@ -1,5 +1,4 @@
 -- The byte, or 0 behind the end.
-use borrow.Author.Rules.{rules}
 use lib.ListN.{get_or-eq_default}
 use Rattle.wire_order_reading.proofs.byte_at.Goals as goal
 

@@ -1,7 +1,6 @@
 -- Length, mark and kind, in the code's order.
 use Prim.Native.Nat.{◌≤◌}
 use native.Mathlib.Omega.{arith}
-use borrow.Author.Rules.{rules}
 use lib.ListN.{length}
 use Rattle.rules_unit.specs.Reading.{decode_order, sent_of}
 use Rattle.wire_order_reading.specs.View.{record_of}

@@ -1,5 +1,4 @@
 -- By the kind.
-use borrow.Author.Rules.{rules}
 use Rattle.rules_unit.specs.Reading.{length_by}
 use Rattle.wire_order_reading.proofs.Tests.{tests}
 use Rattle.wire_order_reading.proofs.length_by.Goals as goal

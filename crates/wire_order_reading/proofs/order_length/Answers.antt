@@ -1,5 +1,4 @@
 -- By the two bytes.
-use borrow.Author.Rules.{rules}
 use Rattle.rules_unit.specs.Reading.{order_length}
 use Rattle.wire_order_reading.proofs.order_length.Goals as goal
 

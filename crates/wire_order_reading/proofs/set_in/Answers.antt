@@ -2,7 +2,6 @@
 use Prim.Native.Nat.{◌+◌, ◌*◌}
 use mathlib.Core.Option.{some}
 use mathlib.Core.Path.{◌∙◌}
-use borrow.Author.Rules.{rules}
 use Rattle.rules.specs.Event.{be2}
 use Rattle.rules.specs.Order.{SET}
 use Rattle.wire_order_reading.proofs.set_in.Goals as goal

@@ -1,6 +1,5 @@
 -- By the order.
 use Rattle.rules.specs.Order.{kind_of}
-use borrow.Author.Rules.{rules}
 use mathlib.Core.Path.{refl}
 use Rattle.wire_orders.proofs.delta_kind.Goals as goal
 

@@ -1,6 +1,5 @@
 -- By the notice.
 use Rattle.rules.specs.Order.{kind_of}
-use borrow.Author.Rules.{rules}
 use mathlib.Core.Path.{refl}
 use Rattle.wire_orders.proofs.notice_kind.Goals as goal
 

@@ -1,7 +1,6 @@
 -- The head, and the position.
 use Rattle.rules.specs.Order.{ASK, kind_of, body_of}
 use Rattle.wire_orders.proofs.Bytes.{head_end, order_length_lem, wrote_one, wrote_order}
-use borrow.Author.Rules.{rules}
 use native.Mathlib.Omega.{arith}
 use Rattle.wire_orders.proofs.write_ask.Goals as goal
 

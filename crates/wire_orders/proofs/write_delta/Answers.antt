@@ -1,6 +1,5 @@
 -- The pairs of a node are the first of its two arrays.
 use Rattle.wire_pairs.specs.View.{pairs_of}
-use borrow.Author.Rules.{rules}
 use Rattle.wire_orders.proofs.write_delta.Goals as goal
 
 pub write_deltas-requires : goal.write_deltas-requires

@@ -1,15 +1,10 @@
 -- At every turn the orders for the pairs that are left, written from here on, make the whole.
-use Prim.Native.Nat.{◌-◌, ◌≤◌, min}
-use Rattle.laws.specs.Buffers.{Owes, owes_end, owes_start}
-use Rattle.rules.specs.Ending.{tell}
-use Rattle.rules.specs.Order.{encode_all}
-use Rattle.wire_pairs.specs.View.{pairs_from}
+use Prim.Native.Nat.{min}
+use Rattle.laws.specs.Buffers.{owes_end, owes_start}
 use Rattle.wire_pairs.proofs.Arrays.{first_past}
 use Rattle.wire_orders.proofs.Tellings.{part_room, part_turn, tell_end}
 use Rattle.wire_orders.specs.View.{delta_of}
-use borrow.Author.Rules.{rules}
-use lib.ListN.{drop, length}
-use mathlib.Core.Path.{◌∙◌, ◌≡◌, ap, refl}
+use mathlib.Core.Path.{◌∙◌, ap, refl}
 use native.Mathlib.Omega.{arith}
 use Rattle.wire_orders.proofs.write_deltas.Goals as goal
 

@@ -1,6 +1,5 @@
 -- Three stores, and the pass.
 use Rattle.wire_orders.proofs.Bytes.{wrote_head}
-use borrow.Author.Rules.{rules}
 use lib.ListN.{length-set}
 use mathlib.Core.Path.{◌∙◌}
 use native.Mathlib.Omega.{arith}

@@ -2,7 +2,6 @@
 use Rattle.wire_orders.proofs.Bytes.{order_length_lem, wrote_notice}
 use Rattle.wire_orders.specs.View.{notice_of}
 use native.Mathlib.Omega.{arith}
-use borrow.Author.Rules.{rules}
 use Rattle.wire_orders.proofs.write_notice.Goals as goal
 
 pub write_head-requires : goal.write_head-requires

@@ -1,15 +1,10 @@
 -- At every turn the pairs that are left, written from here on, make the whole.
-use Prim.Native.Nat.{◌+◌, ◌*◌, ◌-◌, ◌≤◌}
-use Rattle.laws.specs.Buffers.{Owes, owes_end, owes_on, owes_start}
-use Rattle.laws.specs.Lists.{collect}
-use Rattle.rules.specs.Event.{pair_bytes}
-use Rattle.wire_pairs.specs.View.{pairs_from}
+use Prim.Native.Nat.{◌+◌}
+use Rattle.laws.specs.Buffers.{owes_end, owes_on, owes_start}
 use Rattle.wire_orders.proofs.Bytes.{pairs_end, pairs_on, wrote_two}
-use Rattle.wire_orders.specs.View.{pair_size, part}
-use borrow.Author.Rules.{rules}
-use lib.ListN.{drop, get_or, length, length-set}
+use lib.ListN.{get_or, length-set}
 use mathlib.Core.List.{[], ◌∷◌}
-use mathlib.Core.Path.{◌≡◌, refl}
+use mathlib.Core.Path.{refl}
 use native.Mathlib.Omega.{arith}
 use Rattle.wire_orders.proofs.write_pairs.Goals as goal
 

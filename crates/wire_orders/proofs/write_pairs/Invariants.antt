@@ -1,16 +1,12 @@
 -- At every turn the pairs that are left, written from here on, make the whole.
 use Prim.Native.Nat.{◌+◌, ◌*◌, ◌-◌, ◌≤◌}
-use Rattle.laws.specs.Buffers.{Owes, owes_end, owes_on, owes_start}
+use Rattle.laws.specs.Buffers.{Owes}
 use Rattle.laws.specs.Lists.{collect}
 use Rattle.rules.specs.Event.{pair_bytes}
 use Rattle.wire_pairs.specs.View.{pairs_from}
-use Rattle.wire_orders.proofs.Bytes.{pairs_end, pairs_on, wrote_two}
 use Rattle.wire_orders.specs.View.{pair_size, part}
-use borrow.Author.Rules.{rules}
-use lib.ListN.{drop, get_or, length, length-set}
-use mathlib.Core.List.{[], ◌∷◌}
-use mathlib.Core.Path.{◌≡◌, refl}
-use native.Mathlib.Omega.{arith}
+use lib.ListN.{drop, length}
+use mathlib.Core.Path.{◌≡◌}
 use Rattle.wire_orders.proofs.write_pairs.Given as goal
 
 abbrev pub invariant-loop-i : goal.invariant-loop-i

@@ -4,7 +4,6 @@ use Rattle.wire_orders.specs.View.{part}
 use lib.ListN.{length-set}
 use mathlib.Core.Path.{◌∙◌, sym}
 use native.Mathlib.Omega.{arith}
-use borrow.Author.Rules.{rules}
 use Rattle.wire_orders.proofs.write_part.Goals as goal
 
 pub bounds-out-body : goal.bounds-out-body

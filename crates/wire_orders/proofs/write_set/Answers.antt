@@ -1,9 +1,8 @@
 -- The head, then position, address and pair.
 use Prim.Native.Nat.{◌+◌, ◌≤◌}
-use Rattle.rules.specs.Order.{Order, SET, kind_of, body_of}
+use Rattle.rules.specs.Order.{SET, kind_of, body_of}
 use Rattle.rules.specs.Event.{two}
 use Rattle.wire_orders.proofs.Bytes.{body_room, order_length_lem, wrote_order, wrote_set}
-use borrow.Author.Rules.{rules}
 use lib.ListN.{length, length-set}
 use mathlib.Core.Path.{◌∙◌}
 use native.Mathlib.Omega.{arith}

@@ -3,9 +3,7 @@ use Rattle.wire_pairs.specs.View.{pairs_of}
 use Rattle.row_entry.specs.View.{status_of}
 use Rattle.row_renumber.specs.Marks.{renumbering_of}
 use Rattle.rules.specs.Step.{status_after}
-use borrow.Author.Rules.{rules}
 use mathlib.Core.Path.{◌∙◌, refl, sym}
-use native.Mathlib.Omega.{arith}
 use Rattle.ring_answer.proofs.hear.registered.Goals as goal
 
 pub returns-in-Finished : goal.returns-in-Finished

@@ -1,6 +1,5 @@
 -- By the place.
 use Rattle.rules.specs.Picture.{no_row}
-use borrow.Author.Rules.{rules}
 use borrow.Author.Tests.{eq-eqb, ne_eqb}
 use mathlib.Core.Bool.{Bool, cond}
 use mathlib.Core.Path.{sym, ◌∙◌, ap}

@@ -1,22 +1,16 @@
 -- What was seen or marked so far, and what is left to look at, are the whole.
-use Prim.Native.Nat.{◌-◌, ◌<◌, ◌≤◌, min}
+use Prim.Native.Nat.{◌-◌, ◌≤◌}
 use Rattle.laws.specs.Lists.{any, collect}
-use Rattle.laws.specs.Views.{any_end}
 use Rattle.wire_pairs.specs.View.{pairs_of}
 use Rattle.row_entry.specs.View.{rows_of}
-use Rattle.row_judge.proofs.Holding.{held_end, held_on}
 use Rattle.row_judge.specs.Marks.{or_each}
 use Rattle.rules.specs.House.{max_pairs, max_units}
 use Rattle.rules.specs.Picture.{bars, holds, keeps, pairs_in}
-use Rattle.ring_entries.proofs.Loops.{seen_next}
-use Rattle.ring_answer.proofs.Walking.{beside_here, beside_past}
 use Rattle.ring_answer.specs.Beside.{beside}
-use borrow.Author.Rules.{rules}
 use lib.ListN.{drop, length, replicate}
 use mathlib.Core.Bool.{false, ◌||◌}
 use mathlib.Core.List.{map}
-use mathlib.Core.Path.{◌≡◌, refl}
-use native.Mathlib.Omega.{arith}
+use mathlib.Core.Path.{◌≡◌}
 use Rattle.ring_answer.proofs.survey.survey_of.Given as goal
 
 abbrev pub invariant-loop-i : goal.invariant-loop-i

@@ -1,16 +1,13 @@
 -- What is left to change decides.
-use Prim.Native.Nat.{◌-◌, ◌<◌, ◌≤◌, min}
+use Prim.Native.Nat.{◌<◌, min}
 use Rattle.ring_entries.proofs.Loops.{change_end, change_on}
 use Rattle.laws.specs.Views.{map_from}
-use Rattle.laws.specs.Alls.{All, all_at, all_set}
-use Rattle.row_entry.specs.View.{rows_of}
-use Rattle.row_entry.specs.Marks.{Marked}
+use Rattle.laws.specs.Alls.{all_at, all_set}
 use Rattle.rules.specs.House.{max_units}
 use Rattle.ring_entries.specs.Changes.{change_of}
 use borrow.Author.Rules.{rules}
-use lib.ListN.{length, length-set}
-use mathlib.Core.List.{map}
-use mathlib.Core.Path.{◌≡◌, refl}
+use lib.ListN.{length-set}
+use mathlib.Core.Path.{refl}
 use native.Mathlib.Omega.{arith}
 use Rattle.ring_entries.proofs.changes.all_changed.Goals as goal
 

@@ -1,17 +1,14 @@
 -- What is left to change decides.
-use Prim.Native.Nat.{◌-◌, ◌<◌, ◌≤◌, min}
-use Rattle.ring_entries.proofs.Loops.{change_end, change_on}
+use Prim.Native.Nat.{◌-◌, ◌≤◌}
 use Rattle.laws.specs.Views.{map_from}
-use Rattle.laws.specs.Alls.{All, all_at, all_set}
+use Rattle.laws.specs.Alls.{All}
 use Rattle.row_entry.specs.View.{rows_of}
 use Rattle.row_entry.specs.Marks.{Marked}
 use Rattle.rules.specs.House.{max_units}
 use Rattle.ring_entries.specs.Changes.{change_of}
-use borrow.Author.Rules.{rules}
-use lib.ListN.{length, length-set}
+use lib.ListN.{length}
 use mathlib.Core.List.{map}
-use mathlib.Core.Path.{◌≡◌, refl}
-use native.Mathlib.Omega.{arith}
+use mathlib.Core.Path.{◌≡◌}
 use Rattle.ring_entries.proofs.changes.all_changed.Given as goal
 
 abbrev pub invariant-loop-i : goal.invariant-loop-i

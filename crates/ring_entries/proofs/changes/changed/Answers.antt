@@ -1,7 +1,6 @@
 -- By the change.
 use Rattle.laws.specs.Bools.{cond_false, cond_true}
 use mathlib.Core.Path.{◌∙◌, sym}
-use borrow.Author.Rules.{rules}
 use Rattle.ring_entries.proofs.changes.changed.Goals as goal
 
 pub returns-then-counts_for : goal.returns-then-counts_for

@@ -1,7 +1,6 @@
 -- By the limit.
 use Rattle.ring_entries.specs.Verdicts.{struck}
 use Rattle.rules.specs.Step.{ignored}
-use borrow.Author.Rules.{rules}
 use mathlib.Core.Path.{◌∙◌, ap}
 use Rattle.ring_entries.proofs.changes.strike.Goals as goal
 

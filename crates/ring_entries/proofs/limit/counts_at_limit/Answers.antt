@@ -2,7 +2,6 @@
 use Rattle.ring_entries.specs.Verdicts.{counts_at_limit}
 use Rattle.rules.specs.Step.{at_limit}
 use mathlib.Core.Path.{◌∙◌, ap, sym}
-use borrow.Author.Rules.{rules}
 use Rattle.ring_entries.proofs.limit.counts_at_limit.Goals as goal
 
 pub returns-then-counts_for : goal.returns-then-counts_for

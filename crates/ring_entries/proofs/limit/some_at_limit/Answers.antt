@@ -1,14 +1,11 @@
 -- What was seen so far, or what is left to look at, is what there is.
-use Prim.Native.Nat.{◌-◌, ◌<◌, ◌≤◌, min}
+use Prim.Native.Nat.{◌<◌, ◌≤◌, min}
 use Rattle.ring_entries.proofs.Loops.{seen_end, seen_on}
 use Rattle.ring_entries.specs.Verdicts.{verdict_of, counts_at_limit}
-use Rattle.laws.specs.Lists.{any}
-use Rattle.row_entry.specs.View.{rows_of}
 use Rattle.rules.specs.House.{max_units}
 use borrow.Author.Rules.{rules}
-use lib.ListN.{drop, length}
 use mathlib.Core.Bool.{Bool, ◌||◌}
-use mathlib.Core.Path.{◌≡◌, ◌∙◌, ap, refl}
+use mathlib.Core.Path.{◌∙◌, ap, refl}
 use native.Mathlib.Omega.{arith}
 use Rattle.ring_entries.proofs.limit.some_at_limit.Goals as goal
 

@@ -1,7 +1,6 @@
 -- SILENT first, then the count.
 use Rattle.ring_entries.specs.Tests.{is_short}
 use Rattle.row_entry.specs.View.{row_of}
-use borrow.Author.Rules.{rules}
 use mathlib.Core.Path.{◌∙◌, sym}
 use Rattle.ring_entries.proofs.outlook.is_short.Goals as goal
 

@@ -1,15 +1,11 @@
 -- What was counted so far, and what is left to count, are all.
 use Prim.Native.Nat.{◌-◌, ◌+◌, ◌≤◌}
-use Rattle.ring_entries.proofs.Loops.{count_end, count_on}
 use Rattle.laws.specs.Lists.{select}
-use Rattle.row_entry.proofs.Arrays.{rows_here, rows_past}
 use Rattle.row_entry.specs.View.{rows_of}
 use Rattle.rules.specs.House.{max_units}
 use Rattle.rules.specs.Picture.{is_open}
-use borrow.Author.Rules.{rules}
 use lib.ListN.{drop, length}
 use mathlib.Core.Path.{◌≡◌}
-use native.Mathlib.Omega.{arith}
 use Rattle.ring_entries.proofs.outlook.open_count.Given as goal
 
 abbrev pub invariant-loop-i : goal.invariant-loop-i

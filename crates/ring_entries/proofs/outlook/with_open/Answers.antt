@@ -1,6 +1,5 @@
 -- One test.
 use Rattle.laws.specs.Lists.{select}
-use borrow.Author.Rules.{rules}
 use mathlib.Core.Path.{◌∙◌, sym}
 use native.Mathlib.Omega.{arith}
 use Rattle.ring_entries.proofs.outlook.with_open.Goals as goal

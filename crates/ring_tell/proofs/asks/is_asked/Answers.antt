@@ -1,5 +1,4 @@
 -- By which are asked.
-use borrow.Author.Rules.{rules}
 use Rattle.ring_tell.proofs.asks.is_asked.Goals as goal
 
 pub returns-in-Open : goal.returns-in-Open

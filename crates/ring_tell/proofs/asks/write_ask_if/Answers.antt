@@ -3,7 +3,6 @@ use Rattle.laws.specs.Buffers.{wrote_along, wrote_nothing}
 use Rattle.row_entry.specs.View.{row_of}
 use Rattle.ring_tell.proofs.Tellings.{asks_none, asks_one}
 use Rattle.ring_tell.specs.View.{which_of}
-use borrow.Author.Rules.{rules}
 use lib.ListN.{length}
 use mathlib.Core.Path.{◌∙◌, ap, sym}
 use native.Mathlib.Omega.{arith}

@@ -1,16 +1,11 @@
 -- At every turn the ASKs of the entries that are left, written from here on, make the whole.
-use Prim.Native.Nat.{◌+◌, ◌-◌, ◌≤◌}
-use Rattle.laws.specs.Buffers.{Owes, owes_end, owes_start}
+use Prim.Native.Nat.{◌+◌}
+use Rattle.laws.specs.Buffers.{owes_end, owes_start}
 use Rattle.row_entry.proofs.Arrays.{rows_here, rows_past}
-use Rattle.row_entry.specs.View.{rows_of}
 use Rattle.ring_tell.proofs.Tellings.{asks_end, asks_room, asks_turn}
 use Rattle.ring_tell.specs.View.{which_of}
-use Rattle.rules.specs.House.{max_units}
-use Rattle.rules.specs.Order.{encode_all}
-use Rattle.rules.specs.Step.{asks}
 use borrow.Author.Rules.{rules}
-use lib.ListN.{drop, length}
-use mathlib.Core.Path.{◌∙◌, ◌≡◌, refl}
+use mathlib.Core.Path.{◌∙◌, refl}
 use native.Mathlib.Omega.{arith}
 use Rattle.ring_tell.proofs.asks.write_asks.Goals as goal
 

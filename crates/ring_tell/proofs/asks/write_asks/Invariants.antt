@@ -1,17 +1,13 @@
 -- At every turn the ASKs of the entries that are left, written from here on, make the whole.
 use Prim.Native.Nat.{◌+◌, ◌-◌, ◌≤◌}
-use Rattle.laws.specs.Buffers.{Owes, owes_end, owes_start}
-use Rattle.row_entry.proofs.Arrays.{rows_here, rows_past}
+use Rattle.laws.specs.Buffers.{Owes}
 use Rattle.row_entry.specs.View.{rows_of}
-use Rattle.ring_tell.proofs.Tellings.{asks_end, asks_room, asks_turn}
 use Rattle.ring_tell.specs.View.{which_of}
 use Rattle.rules.specs.House.{max_units}
 use Rattle.rules.specs.Order.{encode_all}
 use Rattle.rules.specs.Step.{asks}
-use borrow.Author.Rules.{rules}
 use lib.ListN.{drop, length}
-use mathlib.Core.Path.{◌∙◌, ◌≡◌, refl}
-use native.Mathlib.Omega.{arith}
+use mathlib.Core.Path.{◌≡◌}
 use Rattle.ring_tell.proofs.asks.write_asks.Given as goal
 
 abbrev pub invariant-loop-i : goal.invariant-loop-i

@@ -1,6 +1,5 @@
 -- By the order.
 use Rattle.rules.specs.Ending.{gained, lost, missing}
-use borrow.Author.Rules.{rules}
 use mathlib.Core.Path.{◌∙◌}
 use Rattle.ring_tell.proofs.changes.changes.Goals as goal
 

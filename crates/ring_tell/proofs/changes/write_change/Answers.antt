@@ -4,7 +4,6 @@ use Rattle.laws.specs.Buffers.{wrote_along}
 use Rattle.wire_orders.specs.View.{delta_of}
 use Rattle.rules.specs.Ending.{tell}
 use Rattle.rules.specs.Order.{encode_all}
-use borrow.Author.Rules.{rules}
 use mathlib.Core.List.{List}
 use mathlib.Core.Path.{ap}
 use Rattle.ring_tell.proofs.changes.write_change.Goals as goal

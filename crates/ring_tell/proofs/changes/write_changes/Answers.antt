@@ -1,17 +1,13 @@
 -- At every turn the orders of the entries that are left, written from here on, make the whole.
-use Prim.Native.Nat.{◌-◌, ◌≤◌}
-use Rattle.laws.specs.Buffers.{Owes, owes_end, owes_start}
+use Rattle.laws.specs.Buffers.{owes_end, owes_start}
 use Rattle.row_entry.proofs.Arrays.{rows_here, rows_past}
 use Rattle.row_entry.specs.View.{rows_of}
 use Rattle.ring_tell.proofs.Tellings.{rows_end, rows_room, rows_turn}
 use Rattle.wire_orders.specs.View.{delta_of}
 use Rattle.ring_tell.specs.View.{changes_of}
-use Rattle.rules.specs.House.{max_units}
-use Rattle.rules.specs.Ending.{tell_rows}
-use Rattle.rules.specs.Order.{encode_all}
 use borrow.Author.Rules.{rules}
-use lib.ListN.{drop, length}
-use mathlib.Core.Path.{◌∙◌, ◌≡◌, refl}
+use lib.ListN.{drop}
+use mathlib.Core.Path.{◌∙◌, refl}
 use native.Mathlib.Omega.{arith}
 use Rattle.ring_tell.proofs.changes.write_changes.Goals as goal
 

@@ -5,7 +5,6 @@ use Rattle.ring_tell.specs.Told.{row_told}
 use Rattle.ring_state.specs.State.{state_of}
 use Rattle.rules.specs.Ending.{gained, lost, tell}
 use Rattle.rules.specs.Order.{Order, INVALID, NEW}
-use borrow.Author.Rules.{rules}
 use mathlib.Core.List.{List}
 use mathlib.Core.Path.{◌∙◌, refl, sym}
 use Rattle.ring_tell.proofs.told.tell_entry.Goals as goal

@@ -5,7 +5,6 @@ use Rattle.ring_tell.specs.Told.{row_told}
 use Rattle.row_renumber.specs.Marks.{renumbering_of}
 use Rattle.wire_orders.proofs.Writing.{start_first, start_second, wrote_orders}
 use Rattle.rules.specs.Step.{set_order}
-use borrow.Author.Rules.{rules}
 use mathlib.Core.Path.{refl}
 use Rattle.ring_tell.proofs.told.tell_reply.Goals as goal
 

@@ -6,7 +6,6 @@ use Rattle.rules.specs.Step.{asks}
 use Rattle.rules.specs.Ending.{tell}
 use Rattle.wire_orders.proofs.Writing.{start_first, start_second, wrote_orders}
 use Rattle.wire_pairs.specs.View.{pairs_from}
-use borrow.Author.Rules.{rules}
 use mathlib.Core.List.{List}
 use mathlib.Core.Path.{refl}
 use native.Mathlib.Omega.{arith}

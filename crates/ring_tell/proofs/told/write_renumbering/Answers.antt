@@ -2,7 +2,6 @@
 use Rattle.wire_pairs.specs.View.{pair_of}
 use Rattle.row_renumber.specs.Marks.{renumbering_of}
 use Rattle.wire_orders.proofs.Writing.{set_none, set_room, set_wrote}
-use borrow.Author.Rules.{rules}
 use mathlib.Core.Path.{ap}
 use Rattle.ring_tell.proofs.told.write_renumbering.Goals as goal
 

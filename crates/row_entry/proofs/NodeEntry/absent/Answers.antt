@@ -1,7 +1,6 @@
 -- IGNORED is number 4.
 use Rattle.row_entry.specs.View.{status_of}
 use Rattle.rules.specs.Picture.{no_row}
-use borrow.Author.Rules.{rules}
 use native.Mathlib.Omega.{arith}
 use Rattle.row_entry.proofs.NodeEntry.absent.Goals as goal
 

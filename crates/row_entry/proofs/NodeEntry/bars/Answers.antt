@@ -1,7 +1,6 @@
 -- The address counts while the entry is IGNORED.
 use Rattle.row_entry.proofs.Marks.{bars_nothing, status_ignored}
 use Rattle.rules.specs.Picture.{bars, bars_status, in_range}
-use borrow.Author.Rules.{rules}
 use mathlib.Core.Bool.{Bool, ◌&&◌}
 use mathlib.Core.Path.{◌∙◌, ap, sym}
 use Rattle.row_entry.proofs.NodeEntry.bars.Goals as goal

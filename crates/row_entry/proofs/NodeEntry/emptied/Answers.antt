@@ -2,7 +2,6 @@
 use Rattle.row_entry.specs.View.{row_of}
 use Rattle.rules.specs.Picture.{with_status}
 use Rattle.rules.specs.Step.{emptied}
-use borrow.Author.Rules.{rules}
 use mathlib.Core.Path.{◌∙◌, sym}
 use Rattle.row_entry.proofs.NodeEntry.emptied.Goals as goal
 

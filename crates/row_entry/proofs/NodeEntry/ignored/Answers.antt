@@ -2,7 +2,6 @@
 use Rattle.row_entry.specs.View.{row_of, status_of}
 use Rattle.rules.specs.Picture.{with_status}
 use Rattle.rules.specs.Step.{ignored}
-use borrow.Author.Rules.{rules}
 use native.Mathlib.Omega.{arith}
 use Rattle.row_entry.proofs.NodeEntry.ignored.Goals as goal
 

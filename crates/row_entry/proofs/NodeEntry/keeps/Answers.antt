@@ -1,7 +1,6 @@
 -- The address counts while the entry is listed.
 use Rattle.row_entry.proofs.Marks.{kept_else, kept_listed}
 use Rattle.rules.specs.Picture.{has_address, keeps}
-use borrow.Author.Rules.{rules}
 use mathlib.Core.Path.{◌∙◌, ap, sym}
 use Rattle.row_entry.proofs.NodeEntry.keeps.Goals as goal
 

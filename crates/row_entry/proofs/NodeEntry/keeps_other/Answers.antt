@@ -1,7 +1,6 @@
 -- The address counts while the entry is listed.
 use Rattle.row_entry.proofs.Marks.{kept_else, kept_listed}
 use Rattle.rules.specs.Picture.{has_other_address, keeps_other}
-use borrow.Author.Rules.{rules}
 use mathlib.Core.Bool.{not}
 use mathlib.Core.Path.{◌∙◌, ap, sym}
 use Rattle.row_entry.proofs.NodeEntry.keeps_other.Goals as goal

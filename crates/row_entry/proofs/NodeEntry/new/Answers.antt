@@ -1,6 +1,5 @@
 -- Both counts are 0.
 use Rattle.rules.specs.Picture.{new_row}
-use borrow.Author.Rules.{rules}
 use Rattle.row_entry.proofs.NodeEntry.new.Goals as goal
 
 pub returns : goal.returns

@@ -1,7 +1,6 @@
 -- Pairs count while the entry is listed.
 use Rattle.row_entry.proofs.Marks.{pairs_else, pairs_listed}
 use Rattle.wire_pairs.specs.View.{pairs_of}
-use borrow.Author.Rules.{rules}
 use mathlib.Core.Path.{◌∙◌, sym}
 use Rattle.row_entry.proofs.NodeEntry.pairs.Goals as goal
 

@@ -2,7 +2,6 @@
 use Prim.Native.Nat.{◌+◌, min, suc}
 use Rattle.row_entry.specs.View.{row_of, status_of}
 use Rattle.rules.specs.Step.{silenced}
-use borrow.Author.Rules.{rules}
 use mathlib.Core.Path.{◌≡◌, refl}
 use native.Mathlib.Omega.{arith}
 use Rattle.row_entry.proofs.NodeEntry.silenced.Goals as goal

@@ -1,6 +1,5 @@
 -- WAITING is number 0.
 use Rattle.row_entry.specs.View.{status_of}
-use borrow.Author.Rules.{rules}
 use mathlib.Core.Path.{refl}
 use native.Mathlib.Omega.{arith}
 use Rattle.row_entry.proofs.NodeEntry.waiting.Goals as goal

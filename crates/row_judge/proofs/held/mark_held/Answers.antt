@@ -1,16 +1,14 @@
 -- What is left to mark decides.
-use Prim.Native.Nat.{◌-◌, ◌<◌, ◌≤◌, min}
+use Prim.Native.Nat.{◌<◌, min}
 use Rattle.wire_pairs.proofs.Arrays.{pairs_at_lem, pairs_length}
 use Rattle.wire_pairs.specs.View.{pair_of, pairs_of}
 use Rattle.row_judge.proofs.Holding.{or_end, or_on, or_from}
-use Rattle.row_judge.specs.Marks.{or_each}
 use Rattle.rules.specs.House.{max_pairs}
 use Rattle.rules.specs.Picture.{holds}
 use borrow.Author.Rules.{rules}
-use lib.ListN.{get_or, length}
+use lib.ListN.{get_or}
 use mathlib.Core.Bool.{Bool, ◌||◌}
-use mathlib.Core.List.{map}
-use mathlib.Core.Path.{◌∙◌, ◌≡◌, ap, refl, sym}
+use mathlib.Core.Path.{◌∙◌, ap, refl, sym}
 use native.Mathlib.Omega.{arith}
 use Rattle.row_judge.proofs.held.mark_held.Goals as goal
 

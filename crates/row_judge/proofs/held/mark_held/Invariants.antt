@@ -1,17 +1,13 @@
 -- What is left to mark decides.
-use Prim.Native.Nat.{◌-◌, ◌<◌, ◌≤◌, min}
-use Rattle.wire_pairs.proofs.Arrays.{pairs_at_lem, pairs_length}
-use Rattle.wire_pairs.specs.View.{pair_of, pairs_of}
-use Rattle.row_judge.proofs.Holding.{or_end, or_on, or_from}
+use Prim.Native.Nat.{◌-◌, ◌≤◌}
+use Rattle.wire_pairs.specs.View.{pairs_of}
+use Rattle.row_judge.proofs.Holding.{or_from}
 use Rattle.row_judge.specs.Marks.{or_each}
 use Rattle.rules.specs.House.{max_pairs}
 use Rattle.rules.specs.Picture.{holds}
-use borrow.Author.Rules.{rules}
-use lib.ListN.{get_or, length}
-use mathlib.Core.Bool.{Bool, ◌||◌}
+use lib.ListN.{length}
 use mathlib.Core.List.{map}
-use mathlib.Core.Path.{◌∙◌, ◌≡◌, ap, refl, sym}
-use native.Mathlib.Omega.{arith}
+use mathlib.Core.Path.{◌≡◌}
 use Rattle.row_judge.proofs.held.mark_held.Given as goal
 
 abbrev pub invariant-loop-i : goal.invariant-loop-i

@@ -1,17 +1,14 @@
 -- At every turn the pairs found so far and the good ones of the rest are all good ones.
-use Prim.Native.Nat.{◌-◌, ◌<◌, ◌≤◌}
+use Prim.Native.Nat.{◌<◌}
 use Rattle.laws.specs.Views.{firsts}
 use Rattle.wire_pairs.proofs.Arrays.{pairs_next}
 use Rattle.wire_pairs.specs.View.{pairs_from, pairs_of}
 use Rattle.row_judge.proofs.Judging.{goods_end, goods_on, judged_at, judged_end}
-use Rattle.row_judge.specs.Marks.{judged_of}
 use Rattle.rules.specs.House.{max_pairs}
-use Rattle.rules.specs.Renumber.{goods}
 use borrow.Author.Rules.{rules}
-use lib.ListN.{drop, get_or, length, length-set}
+use lib.ListN.{get_or, length-set}
 use mathlib.Core.Bool.{false}
-use mathlib.Core.List.{◌++◌}
-use mathlib.Core.Path.{◌≡◌, refl}
+use mathlib.Core.Path.{refl}
 use native.Mathlib.Omega.{arith}
 use Rattle.row_judge.proofs.judge.good_pairs.Goals as goal
 

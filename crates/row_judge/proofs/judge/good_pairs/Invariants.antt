@@ -1,18 +1,12 @@
 -- At every turn the pairs found so far and the good ones of the rest are all good ones.
-use Prim.Native.Nat.{◌-◌, ◌<◌, ◌≤◌}
-use Rattle.laws.specs.Views.{firsts}
-use Rattle.wire_pairs.proofs.Arrays.{pairs_next}
+use Prim.Native.Nat.{◌-◌, ◌≤◌}
 use Rattle.wire_pairs.specs.View.{pairs_from, pairs_of}
-use Rattle.row_judge.proofs.Judging.{goods_end, goods_on, judged_at, judged_end}
 use Rattle.row_judge.specs.Marks.{judged_of}
 use Rattle.rules.specs.House.{max_pairs}
 use Rattle.rules.specs.Renumber.{goods}
-use borrow.Author.Rules.{rules}
-use lib.ListN.{drop, get_or, length, length-set}
-use mathlib.Core.Bool.{false}
+use lib.ListN.{drop, length}
 use mathlib.Core.List.{◌++◌}
-use mathlib.Core.Path.{◌≡◌, refl}
-use native.Mathlib.Omega.{arith}
+use mathlib.Core.Path.{◌≡◌}
 use Rattle.row_judge.proofs.judge.good_pairs.Given as goal
 
 abbrev pub invariant-loop-i : goal.invariant-loop-i

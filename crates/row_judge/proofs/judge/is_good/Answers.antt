@@ -2,7 +2,6 @@
 use Rattle.wire_pairs.specs.View.{pair_of}
 use Rattle.row_judge.specs.Marks.{is_good_marked}
 use Rattle.rules.specs.Picture.{Pair, holds}
-use borrow.Author.Rules.{rules}
 use borrow.Author.Tests.{le-leb, lt-leb}
 use mathlib.Core.List.{List}
 use mathlib.Core.Path.{◌∙◌, ap, sym}

@@ -1,14 +1,13 @@
 -- At every turn what is judged so far, and the judging of the rest, are the whole.
-use Prim.Native.Nat.{◌-◌, ◌<◌, ◌≤◌, min}
+use Prim.Native.Nat.{◌<◌, min}
 use Rattle.rules.specs.House.{max_pairs}
 use Rattle.wire_pairs.proofs.Arrays.{pairs_at_lem, pairs_length}
 use Rattle.wire_pairs.specs.View.{pair_of, pairs_of}
 use Rattle.row_judge.proofs.Judging.{judge_end, judge_on}
-use Rattle.row_judge.specs.Marks.{is_good_marked, judge_marked, judged_of}
+use Rattle.row_judge.specs.Marks.{is_good_marked}
 use borrow.Author.Rules.{rules}
-use lib.ListN.{drop, get_or, length, length-set, take}
-use mathlib.Core.List.{[], ◌++◌}
-use mathlib.Core.Path.{◌∙◌, ◌≡◌, ap, refl, sym}
+use lib.ListN.{get_or, length-set, take}
+use mathlib.Core.Path.{◌∙◌, ap, refl, sym}
 use native.Mathlib.Omega.{arith}
 use Rattle.row_judge.proofs.judge.judge.Goals as goal
 

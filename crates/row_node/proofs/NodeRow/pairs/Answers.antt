@@ -1,7 +1,6 @@
 -- The arrays as they are.
 use mathlib.Core.Path.{refl}
 use Rattle.wire_pairs.specs.View.{pairs_of}
-use borrow.Author.Rules.{rules}
 use Rattle.row_node.specs.View.{held_pairs}
 use Rattle.row_node.proofs.NodeRow.pairs.Goals as goal
 

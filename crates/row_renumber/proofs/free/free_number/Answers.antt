@@ -4,7 +4,6 @@ use Rattle.wire_pairs.specs.View.{pairs_of}
 use Rattle.row_entry.specs.View.{rows_of}
 use Rattle.row_renumber.proofs.Numbers.{least_free_lem}
 use Rattle.rules.specs.Picture.{pairs_in}
-use borrow.Author.Rules.{rules}
 use mathlib.Core.Path.{◌∙◌}
 use Rattle.row_renumber.proofs.free.free_number.Goals as goal
 

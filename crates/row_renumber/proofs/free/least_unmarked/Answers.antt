@@ -1,11 +1,9 @@
 -- What is left to look at decides.
-use Prim.Native.Nat.{◌-◌, ◌≤◌}
 use Rattle.row_renumber.proofs.Numbers.{least_end, least_found, least_on}
-use Rattle.row_renumber.specs.Marks.{is_marked, least_by}
-use borrow.Author.Rules.{rules}
+use Rattle.row_renumber.specs.Marks.{is_marked}
 use borrow.Author.Tests.{eq-eqb, ne_eqb}
 use mathlib.Core.Bool.{not}
-use mathlib.Core.Path.{◌∙◌, ◌≡◌, ap, refl, sym}
+use mathlib.Core.Path.{◌∙◌, ap, refl, sym}
 use native.Mathlib.Omega.{arith}
 use Rattle.row_renumber.proofs.free.least_unmarked.Goals as goal
 

@@ -1,17 +1,13 @@
 -- At every turn the numbers that are left, marked from here on, make the whole.
 use Prim.Native.Nat.{◌-◌, ◌≤◌}
 use Rattle.laws.specs.Lists.{collect}
-use Rattle.row_entry.proofs.Arrays.{rows_here, rows_past}
-use Rattle.wire_pairs.specs.View.{pairs_of}
 use Rattle.row_entry.specs.View.{rows_of}
-use Rattle.row_renumber.proofs.Numbers.{Left, left_end, left_on, left_start, numbers_row, rows_none}
+use Rattle.row_renumber.proofs.Numbers.{Left}
 use Rattle.rules.specs.House.{max_units}
 use Rattle.rules.specs.Picture.{pairs_in}
 use Rattle.rules.specs.Renumber.{numbers_of}
-use borrow.Author.Rules.{rules}
 use lib.ListN.{drop, length}
-use mathlib.Core.Path.{◌∙◌, ◌≡◌}
-use native.Mathlib.Omega.{arith}
+use mathlib.Core.Path.{◌≡◌}
 use Rattle.row_renumber.proofs.free.mark_entries.Given as goal
 
 abbrev pub invariant-loop-i : goal.invariant-loop-i

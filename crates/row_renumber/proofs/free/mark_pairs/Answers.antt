@@ -1,14 +1,11 @@
 -- At every turn the numbers that are left, marked from here on, make the whole.
-use Prim.Native.Nat.{◌-◌, ◌≤◌}
 use Rattle.wire_pairs.proofs.Arrays.{pairs_here, pairs_past}
 use Rattle.wire_pairs.specs.View.{pair_of, pairs_of}
-use Rattle.row_renumber.proofs.Numbers.{Left, added_at, left_end, left_on, left_start, numbers_none, numbers_pair}
-use Rattle.rules.specs.House.{max_pairs}
+use Rattle.row_renumber.proofs.Numbers.{added_at, left_end, left_on, left_start, numbers_none, numbers_pair}
 use Rattle.rules.specs.Renumber.{numbers_of}
 use borrow.Author.Rules.{rules}
-use lib.ListN.{drop, get_or, length}
+use lib.ListN.{get_or}
 use mathlib.Core.List.{[], ◌∷◌}
-use mathlib.Core.Path.{◌≡◌}
 use native.Mathlib.Omega.{arith}
 use Rattle.row_renumber.proofs.free.mark_pairs.Goals as goal
 

@@ -7,7 +7,6 @@ use Rattle.row_renumber.proofs.Offers.{offers, offers_none}
 use Rattle.row_renumber.specs.Marks.{NoneFree, attempt_of, free_of}
 use Rattle.rules.specs.Picture.{pairs_in}
 use Rattle.rules.specs.Renumber.{free_number}
-use borrow.Author.Rules.{rules}
 use borrow.Author.Tests.{le-ltb}
 use mathlib.Core.Path.{◌∙◌, ap, subst, sym}
 use Rattle.row_renumber.proofs.renumber.attempt.Goals as goal

@@ -4,7 +4,6 @@ use Rattle.wire_pairs.specs.View.{pairs_of}
 use Rattle.row_entry.specs.View.{rows_of}
 use Rattle.rules.specs.Picture.{pairs_in}
 use Rattle.rules.specs.Renumber.{free_number}
-use borrow.Author.Rules.{rules}
 use mathlib.Core.Path.{◌∙◌, ◌≡◌, ap, sym}
 use native.Mathlib.Omega.{arith}
 use Rattle.row_renumber.proofs.renumber.free_for.Goals as goal

@@ -1,18 +1,13 @@
 -- What is left from the place on decides.
-use Prim.Native.Nat.{◌-◌}
 use Rattle.laws.specs.Lists.{collect}
 use Rattle.wire_pairs.specs.View.{pairs_of}
 use Rattle.row_entry.specs.View.{rows_of}
 use Rattle.row_judge.proofs.Judging.{judged_at, judged_end}
-use Rattle.row_judge.specs.Marks.{judged_of}
 use Rattle.row_renumber.proofs.Offers.{turn_offered, turn_passed}
-use Rattle.row_renumber.specs.Marks.{NoneFree}
-use Rattle.rules.specs.House.{max_pairs}
 use Rattle.rules.specs.Picture.{pairs_in}
 use Rattle.rules.specs.Renumber.{free_number, renumber, renumber_from}
 use borrow.Author.Rules.{rules}
-use lib.ListN.{drop, length}
-use mathlib.Core.Path.{◌∙◌, ◌≡◌, ap, refl, sym}
+use mathlib.Core.Path.{◌∙◌, ap, refl, sym}
 use native.Mathlib.Omega.{arith}
 use Rattle.row_renumber.proofs.renumber.renumber_from.Goals as goal
 

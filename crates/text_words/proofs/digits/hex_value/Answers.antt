@@ -1,5 +1,4 @@
 -- Each return is the range that the byte lies in.
-use borrow.Author.Rules.{rules}
 use native.Mathlib.Omega.{arith}
 use mathlib.Core.Path.{sym}
 use Rattle.text_words.proofs.Ranges.{inside, below, above, decimal_digit, upper_digit, lower_digit, no_digit}

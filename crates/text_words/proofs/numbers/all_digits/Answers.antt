@@ -1,11 +1,8 @@
 -- The byte at hand is no digit, or those behind it decide.
-use Prim.Native.Nat.{◌-◌}
-use mathlib.Core.Path.{◌≡◌, refl, sym, ◌∙◌}
-use lib.ListN.{length, drop, drop_of_length-le}
+use mathlib.Core.Path.{refl, sym, ◌∙◌}
+use lib.ListN.{drop_of_length-le}
 use Rattle.laws.specs.Runs.{drop_here}
-use Rattle.text_words.specs.Text.{all_digits}
 use Rattle.text_words.proofs.Reckoning.{digits_stop, digits_on, digits_end}
-use borrow.Author.Rules.{rules}
 use native.Mathlib.Omega.{arith}
 use Rattle.text_words.proofs.numbers.all_digits.Goals as goal
 

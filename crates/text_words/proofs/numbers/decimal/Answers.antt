@@ -1,12 +1,9 @@
 -- What is read so far, with the digits that are left, makes the number; it only grows.
-use Prim.Native.Nat.{◌+◌, ◌-◌, ◌*◌, ◌≤◌}
-use mathlib.Core.Path.{◌≡◌, refl, sym, ◌∙◌}
-use lib.ListN.{length, drop, drop_of_length-le}
-use Rattle.laws.specs.Bools.{not_true, not_false}
+use Prim.Native.Nat.{◌+◌, ◌*◌}
+use mathlib.Core.Path.{refl, sym, ◌∙◌}
+use lib.ListN.{drop, drop_of_length-le}
 use Rattle.laws.specs.Runs.{drop_here}
-use Rattle.text_words.specs.Text.{number, number_from}
 use Rattle.text_words.proofs.Reckoning.{number_on, number_end, number_grows, decimal_empty, decimal_none, decimal_large, decimal_fits}
-use borrow.Author.Rules.{rules}
 use native.Mathlib.Omega.{arith}
 use Rattle.text_words.proofs.numbers.decimal.Goals as goal
 

@@ -1,12 +1,8 @@
 -- What is read so far, with the digits that are left, makes the last 32 bits of the number.
-use Prim.Native.Nat.{ℕ, ◌+◌, ◌-◌, ◌*◌, ◌%◌, ◌<◌}
-use mathlib.Core.Path.{◌≡◌, refl, ◌∙◌, ap}
-use lib.ListN.{length, drop, drop_of_length-le}
-use Rattle.laws.specs.Runs.{drop_here}
+use Prim.Native.Nat.{◌-◌, ◌%◌, ◌<◌}
+use mathlib.Core.Path.{◌≡◌}
+use lib.ListN.{length, drop}
 use Rattle.text_words.specs.Text.{number, number_from}
-use Rattle.text_words.proofs.Reckoning.{number_on, number_end, number_low}
-use borrow.Author.Rules.{rules}
-use native.Mathlib.Omega.{arith}
 use Rattle.text_words.proofs.numbers.hex.Given as goal
 
 abbrev pub invariant-loop-i : goal.invariant-loop-i

@@ -1,12 +1,8 @@
 -- Two words of one length differ at a place, or what is left of them decides.
 use Prim.Native.Nat.{◌-◌}
-use mathlib.Core.Path.{◌≡◌, refl, sym, ◌∙◌}
-use lib.ListN.{length, drop, drop_of_length-le}
-use Rattle.laws.specs.Runs.{drop_here}
+use mathlib.Core.Path.{◌≡◌}
+use lib.ListN.{length, drop}
 use Rattle.text_words.specs.Text.{same_word}
-use Rattle.text_words.proofs.Matching.{same_differs, same_on, same_ends, same_lengths}
-use borrow.Author.Rules.{rules}
-use native.Mathlib.Omega.{arith}
 use Rattle.text_words.proofs.words.same.Given as goal
 
 abbrev pub invariant-loop-i : goal.invariant-loop-i

@@ -1,14 +1,10 @@
 -- What is left of the line, without the dropped bytes at its end, is the length asked for.
 use Prim.Native.Nat.{◌-◌, ◌≤◌}
-use mathlib.Core.Path.{◌≡◌, sym, ◌∙◌}
+use mathlib.Core.Path.{◌≡◌}
 use mathlib.Core.List.{reverse}
 use lib.ListN.{length, take}
-use lib.Seq.{take-length}
-use Rattle.laws.specs.Bools.{not_true, not_false}
-use Rattle.laws.specs.Runs.{leading, back_stops, back_on}
+use Rattle.laws.specs.Runs.{leading}
 use Rattle.text_words.specs.Text.{is_dropped, trimmed_length}
-use borrow.Author.Rules.{rules}
-use native.Mathlib.Omega.{arith}
 use Rattle.text_words.proofs.words.trimmed.Given as goal
 
 abbrev pub invariant-loop-n : goal.invariant-loop-n

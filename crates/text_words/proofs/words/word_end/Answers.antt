@@ -1,11 +1,8 @@
 -- The place passed over so far, and the bytes from there on that are no blanks, make the place asked for.
-use Prim.Native.Nat.{◌+◌, ◌-◌, ◌≤◌}
-use mathlib.Core.Path.{◌≡◌, refl, sym, ◌∙◌, ap}
-use lib.ListN.{length, drop}
+use mathlib.Core.Path.{refl, sym, ◌∙◌, ap}
 use mathlib.Core.Bool.{not}
 use Rattle.laws.specs.Runs.{run_stops, run_on, run_ends}
-use Rattle.text_words.specs.Text.{is_glyph, glyphs}
-use borrow.Author.Rules.{rules}
+use Rattle.text_words.specs.Text.{is_glyph}
 use native.Mathlib.Omega.{arith}
 use Rattle.text_words.proofs.words.word_end.Goals as goal
 

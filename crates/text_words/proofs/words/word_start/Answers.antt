@@ -1,11 +1,7 @@
 -- The place passed over so far, and the blanks from there on, make the place asked for.
-use Prim.Native.Nat.{◌+◌, ◌-◌, ◌≤◌}
-use mathlib.Core.Path.{◌≡◌, refl, sym, ◌∙◌}
-use lib.ListN.{length, drop}
-use Rattle.laws.specs.Bools.{not_true, not_false}
+use mathlib.Core.Path.{refl, sym, ◌∙◌}
 use Rattle.laws.specs.Runs.{run_stops, run_on, run_ends}
-use Rattle.text_words.specs.Text.{is_blank, blanks}
-use borrow.Author.Rules.{rules}
+use Rattle.text_words.specs.Text.{is_blank}
 use native.Mathlib.Omega.{arith}
 use Rattle.text_words.proofs.words.word_start.Goals as goal
 

@@ -1,12 +1,8 @@
 -- The place passed over so far, and the blanks from there on, make the place asked for.
 use Prim.Native.Nat.{◌+◌, ◌-◌, ◌≤◌}
-use mathlib.Core.Path.{◌≡◌, refl, sym, ◌∙◌}
+use mathlib.Core.Path.{◌≡◌}
 use lib.ListN.{length, drop}
-use Rattle.laws.specs.Bools.{not_true, not_false}
-use Rattle.laws.specs.Runs.{run_stops, run_on, run_ends}
-use Rattle.text_words.specs.Text.{is_blank, blanks}
-use borrow.Author.Rules.{rules}
-use native.Mathlib.Omega.{arith}
+use Rattle.text_words.specs.Text.{blanks}
 use Rattle.text_words.proofs.words.word_start.Given as goal
 
 abbrev pub invariant-loop-at : goal.invariant-loop-at

@@ -1,14 +1,10 @@
 -- A search: what is left to look at decides.
 use Prim.Native.Nat.{◌-◌}
-use Rattle.laws.specs.Views.{any_empty, any_here, any_skip}
 use Rattle.rules.specs.House.{max_pairs}
-use Rattle.rules.specs.Picture.{holds, same_pair}
-use Rattle.wire_pairs.proofs.Arrays.{pairs_here, pairs_past}
+use Rattle.rules.specs.Picture.{holds}
 use Rattle.wire_pairs.specs.View.{pair_of, pairs_of}
 use lib.ListN.{drop, length}
-use mathlib.Core.Path.{◌∙◌, ◌≡◌, refl, sym}
-use native.Mathlib.Omega.{arith}
-use borrow.Author.Rules.{rules}
+use mathlib.Core.Path.{◌≡◌}
 use Rattle.wire_pairs.proofs.Pairs.holds_from.Given as goal
 
 abbrev pub invariant-loop-i : goal.invariant-loop-i

@@ -1,5 +1,4 @@
 -- One test.
-use borrow.Author.Rules.{rules}
 use mathlib.Core.Bool.{not}
 use mathlib.Core.Path.{◌∙◌, ap, sym}
 use Rattle.wire_pairs.proofs.Pairs.lacks.Goals as goal

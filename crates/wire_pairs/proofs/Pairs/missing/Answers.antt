@@ -1,14 +1,10 @@
 -- At every turn the pairs found so far and those missing of the rest are all that are missing.
-use Prim.Native.Nat.{◌-◌, ◌≤◌}
 use Rattle.laws.specs.Views.{firsts}
 use Rattle.wire_pairs.proofs.Arrays.{missing_end, missing_on, pairs_here, pairs_next, pairs_past}
 use Rattle.wire_pairs.specs.View.{pairs_from, pairs_of}
-use Rattle.rules.specs.House.{max_pairs}
-use Rattle.rules.specs.Ending.{missing}
 use borrow.Author.Rules.{rules}
-use lib.ListN.{drop, length, length-set}
-use mathlib.Core.List.{◌++◌}
-use mathlib.Core.Path.{◌≡◌, refl}
+use lib.ListN.{length-set}
+use mathlib.Core.Path.{refl}
 use native.Mathlib.Omega.{arith}
 use Rattle.wire_pairs.proofs.Pairs.missing.Goals as goal
 

@@ -1,8 +1,6 @@
 -- The first that applies.
-use Rattle.laws.specs.Bools.{not_true, not_false}
 use Rattle.rules.specs.Step.{first_that_applies}
 use mathlib.Core.Path.{◌∙◌, sym}
-use borrow.Author.Rules.{rules}
 use Rattle.ring_entries.proofs.claims.Claims.verdict.Goals as goal
 
 pub returns-then-self : goal.returns-then-self

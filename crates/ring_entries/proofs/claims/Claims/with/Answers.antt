@@ -1,5 +1,4 @@
 -- One test for each mark.
-use borrow.Author.Rules.{rules}
 use mathlib.Core.Bool.{Bool, ◌||◌}
 use mathlib.Core.Path.{◌∙◌, ap}
 use Rattle.ring_entries.proofs.claims.Claims.with.Goals as goal

@@ -2,7 +2,6 @@
 use Rattle.ring_entries.specs.Verdicts.{verdict_of, is_conflict}
 use Rattle.ring_entries.specs.declared.verdict.Verdict.{Verdict}
 use mathlib.Core.Path.{ap, sym}
-use borrow.Author.Rules.{rules}
 use Rattle.ring_entries.proofs.verdict.Verdict.conflicts.Goals as goal
 
 pub returns-in-Barred : goal.returns-in-Barred

@@ -2,7 +2,6 @@
 use Rattle.ring_entries.specs.Verdicts.{counts_for}
 use Rattle.rules.specs.Step.{nobody}
 use mathlib.Core.Path.{refl}
-use borrow.Author.Rules.{rules}
 use Rattle.ring_entries.proofs.verdict.Verdict.counts_for.Goals as goal
 
 pub returns-in-Barred : goal.returns-in-Barred

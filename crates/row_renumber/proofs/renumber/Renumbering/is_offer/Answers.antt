@@ -1,7 +1,6 @@
 -- By the case.
 use Rattle.row_renumber.specs.declared.renumber.Renumbering.{Renumbering}
 use Rattle.row_renumber.specs.Marks.{is_offer, renumbering_of}
-use borrow.Author.Rules.{rules}
 use mathlib.Core.Path.{ap, sym}
 use Rattle.row_renumber.proofs.renumber.Renumbering.is_offer.Goals as goal
 

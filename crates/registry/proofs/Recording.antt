@@ -24,7 +24,7 @@ use Rattle.rules.specs.Run.{Outcome, concluded, refused, step, written}
 use Rattle.rules.specs.Step.{silenced}
 use lib.ListN.{get_or, length}
 use mathlib.Core.List.{List, []}
-use mathlib.Core.Path.{◌∙◌, ◌≡◌, ap, refl, subst, sym}
+use mathlib.Core.Path.{◌∙◌, ◌≡◌, ap, refl, subst}
 
 -- the picture, what was given and lent, and what was read of it
 pub record Decoded : Type 0 where

@@ -4,7 +4,6 @@ use Rattle.rules.specs.Ending.{missing}
 use Rattle.diff_rows.specs.Gathering.{seen_in}
 use Rattle.diff_changes.specs.Changes.{seen_pairs, gone_in}
 use Rattle.diff_changes.proofs.Parts.{seen_row, seen_none}
-use borrow.Author.Rules.{rules}
 use Rattle.diff_changes.proofs.gone.Goals as goal
 
 pub returns-then-is_seated : goal.returns-then-is_seated

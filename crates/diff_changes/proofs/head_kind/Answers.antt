@@ -3,7 +3,6 @@ use mathlib.Core.Path.{sym, ◌∙◌, ap}
 use mathlib.Core.Bool.{Bool, cond}
 use Rattle.diff_changes.specs.Changes.{head_kind}
 use Rattle.diff_changes.proofs.Parts.{seen_row, seen_none}
-use borrow.Author.Rules.{rules}
 use Rattle.diff_changes.proofs.head_kind.Goals as goal
 
 pub returns-then-same : goal.returns-then-same

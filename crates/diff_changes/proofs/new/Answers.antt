@@ -2,7 +2,6 @@
 use mathlib.Core.Path.{◌∙◌}
 use Rattle.rules.specs.Ending.{missing}
 use Rattle.diff_changes.specs.Changes.{new_in}
-use borrow.Author.Rules.{rules}
 use Rattle.diff_changes.proofs.new.Goals as goal
 
 pub returns : goal.returns

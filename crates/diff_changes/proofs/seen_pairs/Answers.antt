@@ -2,7 +2,6 @@
 use mathlib.Core.Path.{sym, ◌∙◌, ap}
 use Rattle.diff_changes.specs.Changes.{seen_pairs}
 use Rattle.diff_changes.proofs.Parts.{seen_row, seen_none}
-use borrow.Author.Rules.{rules}
 use Rattle.diff_changes.proofs.seen_pairs.Goals as goal
 
 pub returns-then-is_seated : goal.returns-then-is_seated

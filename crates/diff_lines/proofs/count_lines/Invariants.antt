@@ -1,14 +1,9 @@
 -- At every turn the lines that are left make the whole.
 use Prim.Native.Nat.{◌+◌, ◌*◌, ◌-◌, ◌≤◌}
-use mathlib.Core.Path.{◌≡◌, ap}
-use native.Mathlib.Omega.{arith}
-use lib.ListN.{drop, get_or, length, length-append}
+use mathlib.Core.Path.{◌≡◌}
+use lib.ListN.{drop, length}
 use Rattle.rules.specs.House.{max_units, max_lines_each}
-use Rattle.rules_diff.specs.Differences.{lines_at}
-use Rattle.diff_rows.specs.Gathering.{seen_in}
 use Rattle.diff_lines.specs.Comparing.{seen, lines_over}
-use Rattle.diff_lines.proofs.Positions.{behind, same_many, turn, over}
-use borrow.Author.Rules.{rules}
 use Rattle.diff_lines.proofs.count_lines.Given as goal
 
 abbrev pub invariant-loop-i : goal.invariant-loop-i

@@ -1,10 +1,9 @@
 -- At every turn the lines that are left, written from here on, make the whole.
-use Prim.Native.Nat.{◌+◌, ◌-◌, ◌≤◌}
-use mathlib.Core.Path.{◌≡◌, refl, ◌∙◌, ap}
+use Prim.Native.Nat.{◌+◌}
+use mathlib.Core.Path.{refl, ◌∙◌, ap}
 use native.Mathlib.Omega.{arith}
 use lib.ListN.{drop, get_or, length, length-append}
-use Rattle.laws.specs.Buffers.{Owes, owes_start, owes_on, owes_end}
-use Rattle.rules.specs.House.{max_units}
+use Rattle.laws.specs.Buffers.{owes_start, owes_on, owes_end}
 use Rattle.rules_diff.specs.Differences.{lines_at, lines_bytes}
 use Rattle.diff_rows.specs.Gathering.{seen_in}
 use Rattle.diff_lines.specs.Comparing.{seen, lines_over}

@@ -1,15 +1,11 @@
 -- At every turn the lines that are left, written from here on, make the whole.
 use Prim.Native.Nat.{◌+◌, ◌-◌, ◌≤◌}
-use mathlib.Core.Path.{◌≡◌, refl, ◌∙◌, ap}
-use native.Mathlib.Omega.{arith}
-use lib.ListN.{drop, get_or, length, length-append}
-use Rattle.laws.specs.Buffers.{Owes, owes_start, owes_on, owes_end}
+use mathlib.Core.Path.{◌≡◌}
+use lib.ListN.{drop, length}
+use Rattle.laws.specs.Buffers.{Owes}
 use Rattle.rules.specs.House.{max_units}
-use Rattle.rules_diff.specs.Differences.{lines_at, lines_bytes}
-use Rattle.diff_rows.specs.Gathering.{seen_in}
+use Rattle.rules_diff.specs.Differences.{lines_bytes}
 use Rattle.diff_lines.specs.Comparing.{seen, lines_over}
-use Rattle.diff_lines.proofs.Positions.{behind, turn_bytes, over_bytes}
-use borrow.Author.Rules.{rules}
 use Rattle.diff_lines.proofs.write_lines.Given as goal
 
 abbrev pub invariant-loop-i : goal.invariant-loop-i

@@ -4,7 +4,6 @@ use native.Mathlib.Omega.{arith}
 use lib.ListN.{length}
 use Rattle.laws.specs.Buffers.{wrote_nothing, wrote_along}
 use Rattle.diff_position.proofs.Bytes.{head_line_none, head_line_some, line_length}
-use borrow.Author.Rules.{rules}
 use Rattle.diff_position.proofs.write_head.Goals as goal
 
 pub returns-then-kind-eq-NO_LINE : goal.returns-then-kind-eq-NO_LINE

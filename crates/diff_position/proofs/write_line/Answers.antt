@@ -4,7 +4,6 @@ use native.Mathlib.Omega.{arith}
 use lib.ListN.{length, length-set}
 use Rattle.rules.specs.House.{line_size}
 use Rattle.diff_position.proofs.Bytes.{wrote_line}
-use borrow.Author.Rules.{rules}
 use Rattle.diff_position.proofs.write_line.Goals as goal
 
 pub bounds-out-at-2 : goal.bounds-out-at-2

@@ -1,11 +1,10 @@
 -- At every turn the lines that are left, written from here on, make the whole.
-use Prim.Native.Nat.{◌+◌, ◌-◌}
-use mathlib.Core.Path.{◌≡◌, refl, ◌∙◌, ap}
+use Prim.Native.Nat.{◌+◌}
+use mathlib.Core.Path.{refl, ◌∙◌, ap}
 use native.Mathlib.Omega.{arith}
 use lib.ListN.{drop, get_or, length, length-append}
-use Rattle.laws.specs.Buffers.{Owes, owes_start, owes_on, owes_end}
+use Rattle.laws.specs.Buffers.{owes_start, owes_on, owes_end}
 use Rattle.laws.specs.Lists.{collect}
-use Rattle.rules.specs.House.{max_pairs}
 use Rattle.rules_diff.specs.Differences.{bytes_of}
 use Rattle.wire_pairs.specs.View.{pairs_of}
 use Rattle.wire_pairs.proofs.Arrays.{pairs_here, pairs_past}

@@ -1,17 +1,12 @@
 -- At every turn the lines that are left, written from here on, make the whole.
-use Prim.Native.Nat.{◌+◌, ◌-◌}
-use mathlib.Core.Path.{◌≡◌, refl, ◌∙◌, ap}
-use native.Mathlib.Omega.{arith}
-use lib.ListN.{drop, get_or, length, length-append}
-use Rattle.laws.specs.Buffers.{Owes, owes_start, owes_on, owes_end}
+use Prim.Native.Nat.{◌-◌}
+use mathlib.Core.Path.{◌≡◌}
+use lib.ListN.{drop, length}
+use Rattle.laws.specs.Buffers.{Owes}
 use Rattle.laws.specs.Lists.{collect}
 use Rattle.rules.specs.House.{max_pairs}
-use Rattle.rules_diff.specs.Differences.{bytes_of}
 use Rattle.wire_pairs.specs.View.{pairs_of}
-use Rattle.wire_pairs.proofs.Arrays.{pairs_here, pairs_past}
 use Rattle.diff_position.specs.Lines.{pair_line}
-use Rattle.diff_position.proofs.Bytes.{line_length, lines_on, lines_end}
-use borrow.Author.Rules.{rules}
 use Rattle.diff_position.proofs.write_pairs.Given as goal
 
 abbrev pub invariant-loop-i : goal.invariant-loop-i

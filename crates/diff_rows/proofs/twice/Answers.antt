@@ -1,11 +1,7 @@
 -- A search: what is left to look at decides.
-use Prim.Native.Nat.{◌-◌}
-use mathlib.Core.Path.{◌≡◌, refl, sym, ◌∙◌}
+use mathlib.Core.Path.{refl, sym, ◌∙◌}
 use native.Mathlib.Omega.{arith}
-use lib.ListN.{drop, length}
 use borrow.Author.Rules.{rules}
-use Rattle.rules.specs.House.{max_pairs}
-use Rattle.rules_diff.specs.Differences.{twice}
 use Rattle.wire_pairs.specs.View.{pairs_of}
 use Rattle.wire_pairs.proofs.Arrays.{pairs_here, pairs_past}
 use Rattle.diff_rows.proofs.Repeats.{twice_here, twice_skip, twice_end}

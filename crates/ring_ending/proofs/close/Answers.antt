@@ -3,7 +3,6 @@ use Rattle.ring_ending.proofs.Closing.{are_orders, is_delay, is_state, wrote_bot
 use Rattle.ring_state.specs.State.{runs, state_of}
 use Rattle.wire_orders.proofs.Writing.{room_first, room_second}
 use Rattle.rules.specs.Order.{OK, WAIT_LONG, WAIT_SHORT}
-use borrow.Author.Rules.{rules}
 use mathlib.Core.Bool.{cond}
 use mathlib.Core.List.{[], ◌∷◌}
 use Rattle.ring_ending.proofs.close.Goals as goal

@@ -1,7 +1,6 @@
 -- One test.
 use Rattle.wire_orders.proofs.Writing.{room_if, wrote_else, wrote_if}
 use Rattle.rules.specs.Order.{OK}
-use borrow.Author.Rules.{rules}
 use Rattle.ring_ending.proofs.write_ok.Goals as goal
 
 pub write_notice-requires : goal.write_notice-requires

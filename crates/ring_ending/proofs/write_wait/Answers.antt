@@ -3,7 +3,6 @@ use Prim.Native.Nat.{◌+◌, ◌≤◌}
 use Rattle.laws.specs.Buffers.{wrote_along}
 use Rattle.wire_orders.proofs.Writing.{room_if, wrote_else, wrote_if}
 use Rattle.rules.specs.Order.{Order, WAIT_LONG, WAIT_SHORT, encode}
-use borrow.Author.Rules.{rules}
 use lib.ListN.{length}
 use mathlib.Core.Bool.{Bool, cond}
 use mathlib.Core.Path.{◌≡◌, ap, subst, sym}

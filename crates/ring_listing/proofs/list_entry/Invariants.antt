@@ -1,16 +1,12 @@
 -- At every turn the entries that are left, stored from here on, make the whole.
 use Rattle.wire_pairs.specs.View.{pairs_of}
 use Prim.Native.Nat.{◌+◌, ◌-◌, ◌≤◌}
-use Rattle.ring_listing.proofs.Listed.{Stored, stored_end, stored_pair, stored_start}
-use Rattle.row_entry.proofs.Entries.{entries_kept}
-use Rattle.wire_pairs.proofs.Arrays.{pairs_here, pairs_past}
+use Rattle.ring_listing.proofs.Listed.{Stored}
 use Rattle.rules.specs.House.{max_pairs}
 use Rattle.rules.specs.Listing.{entry}
-use borrow.Author.Rules.{rules}
-use lib.ListN.{drop, length, length-set}
+use lib.ListN.{drop, length}
 use mathlib.Core.List.{map}
-use mathlib.Core.Path.{◌∙◌, ◌≡◌, ap, refl, sym}
-use native.Mathlib.Omega.{arith}
+use mathlib.Core.Path.{◌≡◌}
 use Rattle.ring_listing.proofs.list_entry.Given as goal
 
 abbrev pub invariant-loop-i : goal.invariant-loop-i

@@ -1,13 +1,12 @@
 -- At every turn the entries that are left, stored from here on, make the whole.
-use Prim.Native.Nat.{◌*◌, ◌+◌, ◌-◌, ◌≤◌}
-use Rattle.ring_listing.proofs.Listed.{Stored, flat, no_rows, stored_end, stored_row, stored_start}
+use Prim.Native.Nat.{◌+◌}
+use Rattle.ring_listing.proofs.Listed.{flat, no_rows, stored_end, stored_row, stored_start}
 use Rattle.row_entry.proofs.Arrays.{rows_here, rows_past}
 use Rattle.row_entry.specs.View.{rows_of}
-use Rattle.rules.specs.House.{max_entries, max_pairs, max_units}
 use Rattle.rules.specs.Listing.{Entry, entries_from}
 use borrow.Author.Rules.{rules}
-use lib.ListN.{drop, length, length-map, replicate}
-use mathlib.Core.Path.{◌∙◌, ◌≡◌, refl}
+use lib.ListN.{length-map}
+use mathlib.Core.Path.{◌∙◌, refl}
 use native.Mathlib.Omega.{arith}
 use Rattle.ring_listing.proofs.listing_of.Goals as goal
 

@@ -1,17 +1,11 @@
 -- What is left to look at decides.
 use Rattle.rules.specs.House.{max_units}
-use Rattle.rules.specs.Picture.{Pair, holds}
 use Prim.Native.Nat.{◌+◌, ◌-◌, ◌≤◌}
-use Rattle.ring_lookup.proofs.Seeking.{first_here, first_none, first_on}
-use Rattle.row_entry.proofs.Arrays.{rows_here, rows_past}
 use Rattle.wire_pairs.specs.View.{pair_of}
 use Rattle.row_entry.specs.View.{rows_of}
 use Rattle.rules.specs.Listing.{entries_from, first_of}
-use borrow.Author.Rules.{rules}
 use lib.ListN.{drop, length}
-use mathlib.Core.List.{List}
-use mathlib.Core.Path.{◌∙◌, ◌≡◌, ap, refl, sym}
-use native.Mathlib.Omega.{arith}
+use mathlib.Core.Path.{◌≡◌}
 use Rattle.ring_lookup.proofs.find.Given as goal
 
 abbrev pub invariant-loop-i : goal.invariant-loop-i

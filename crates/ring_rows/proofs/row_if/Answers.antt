@@ -1,6 +1,5 @@
 -- By whether it is listed.
 use mathlib.Core.Path.{◌∙◌, sym}
-use borrow.Author.Rules.{rules}
 use Rattle.laws.specs.Bools.{cond_true, cond_false}
 use Rattle.ring_rows.proofs.row_if.Goals as goal
 

@@ -1,8 +1,7 @@
 -- At every turn the places are filled with the rows of the entries passed.
-use Prim.Native.Nat.{◌-◌, ◌≤◌}
-use mathlib.Core.Path.{◌≡◌, sym, subst}
+use mathlib.Core.Path.{sym, subst}
 use native.Mathlib.Omega.{arith}
-use lib.ListN.{length, replicate}
+use lib.ListN.{replicate}
 use borrow.Author.Rules.{rules}
 use Rattle.rules.specs.House.{max_units}
 use Rattle.row_node.specs.declared.NodeRow.{NodeRow}
@@ -10,13 +9,12 @@ use Rattle.ring_rows.proofs.Filling.{Filling, filling_start, filling_on, filling
 use Rattle.ring_rows.proofs.rows_of.Goals as goal
 
 pub loop-i-init : goal.loop-i-init
-loop-i-init c =
-    (
-      omega arith,
-      omega arith,
-      search rules,
-      subst (λ (r : NodeRow). Filling c.args.entries 0 0 (replicate max_units r)) (sym c.none-none.ensures) (filling_start c.args.entries),
-    )
+loop-i-init c = (
+  omega arith,
+  omega arith,
+  search rules,
+  subst (λ (r : NodeRow). Filling c.args.entries 0 0 (replicate max_units r)) (sym c.none-none.ensures) (filling_start c.args.entries),
+)
 
 pub overflow_cast-before : goal.overflow_cast-before
 overflow_cast-before c =

@@ -1,12 +1,9 @@
 -- At every turn the places are filled with the rows of the entries passed.
 use Prim.Native.Nat.{◌-◌, ◌≤◌}
-use mathlib.Core.Path.{◌≡◌, sym, subst}
-use native.Mathlib.Omega.{arith}
-use lib.ListN.{length, replicate}
-use borrow.Author.Rules.{rules}
+use mathlib.Core.Path.{◌≡◌}
+use lib.ListN.{length}
 use Rattle.rules.specs.House.{max_units}
-use Rattle.row_node.specs.declared.NodeRow.{NodeRow}
-use Rattle.ring_rows.proofs.Filling.{Filling, filling_start, filling_on, filling_end}
+use Rattle.ring_rows.proofs.Filling.{Filling}
 use Rattle.ring_rows.proofs.rows_of.Given as goal
 
 abbrev pub invariant-loop-i : goal.invariant-loop-i

@@ -1,15 +1,10 @@
 -- A search, two bytes at a time: what is left to look at decides.
-use Prim.Native.Nat.{◌+◌, ◌*◌, ◌-◌, ◌≤◌}
-use Rattle.laws.specs.Views.{any_empty, any_here, any_skip}
-use Rattle.unit_answers.proofs.Keeping.{read_past}
-use Rattle.wire_events.proofs.Readings.{read_here}
+use Prim.Native.Nat.{◌*◌, ◌-◌, ◌≤◌}
 use Rattle.wire_pairs.specs.View.{pair_of}
 use Rattle.rules.specs.Event.{read_pairs}
-use Rattle.rules.specs.Picture.{holds, same_pair}
+use Rattle.rules.specs.Picture.{holds}
 use lib.ListN.{drop}
-use mathlib.Core.Path.{◌∙◌, ◌≡◌, sym}
-use native.Mathlib.Omega.{arith}
-use borrow.Author.Rules.{rules}
+use mathlib.Core.Path.{◌≡◌}
 use Rattle.unit_answers.proofs.names.Given as goal
 
 abbrev pub invariant-loop-i : goal.invariant-loop-i

@@ -1,7 +1,6 @@
 -- By the answer.
 use Rattle.unit_slave.specs.Steps.{is_refusal}
 use mathlib.Core.Path.{refl}
-use borrow.Author.Rules.{rules}
 use Rattle.unit_slave.proofs.is_refusal.Goals as goal
 
 pub returns-in-Refused : goal.returns-in-Refused

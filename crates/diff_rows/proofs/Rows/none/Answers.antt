@@ -1,5 +1,4 @@
 -- No seat is taken.
-use borrow.Author.Rules.{rules}
 use mathlib.Core.Path.{ap}
 use Rattle.row_node.specs.declared.NodeRow.{NodeRow}
 use Rattle.row_node.specs.View.{no_node_row}

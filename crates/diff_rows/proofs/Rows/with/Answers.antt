@@ -1,7 +1,6 @@
 -- A bad row, one that does not rise, and one that is seated.
 use mathlib.Core.Path.{sym, ◌∙◌}
 use native.Mathlib.Omega.{arith}
-use borrow.Author.Rules.{rules}
 use borrow.Author.Tests.{le-leb}
 use Rattle.laws.specs.Bools.{cond_true, cond_false}
 use Rattle.row_node.specs.View.{node_row_of}

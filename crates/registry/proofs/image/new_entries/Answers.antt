@@ -3,7 +3,6 @@ use Rattle.laws.specs.Views.{firsts_replicate}
 use Rattle.laws.specs.Alls.{all_replicate}
 use Rattle.rules.specs.House.{max_units}
 use Rattle.row_entry.specs.View.{row_of, rows_of}
-use borrow.Author.Rules.{rules}
 use lib.ListN.{replicate}
 use mathlib.Core.Path.{◌∙◌, ap}
 use Rattle.registry.proofs.image.new_entries.Goals as goal

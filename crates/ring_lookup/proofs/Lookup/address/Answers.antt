@@ -1,6 +1,5 @@
 -- By the answer.
 use Rattle.rules.specs.Listing.{lookup_address}
-use borrow.Author.Rules.{rules}
 use mathlib.Core.Path.{refl}
 use Rattle.ring_lookup.proofs.Lookup.address.Goals as goal
 

@@ -1,6 +1,5 @@
 -- By the answer.
 use Rattle.rules.specs.Listing.{lookup_number}
-use borrow.Author.Rules.{rules}
 use mathlib.Core.Path.{refl}
 use Rattle.ring_lookup.proofs.Lookup.number.Goals as goal
 

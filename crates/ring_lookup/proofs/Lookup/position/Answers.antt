@@ -1,6 +1,5 @@
 -- By the answer.
 use Rattle.rules.specs.Listing.{lookup_position}
-use borrow.Author.Rules.{rules}
 use mathlib.Core.Path.{refl}
 use Rattle.ring_lookup.proofs.Lookup.position.Goals as goal
 

@@ -1,13 +1,12 @@
 -- One place down, one at a time: those moved so far, and those behind the place.
-use Prim.Native.Nat.{◌+◌, ◌-◌, ◌≤◌}
+use Prim.Native.Nat.{◌+◌}
 use Rattle.laws.specs.Views.{firsts}
 use Rattle.rules.specs.House.{max_answers}
 use Rattle.unit_answers.proofs.Arrays.{known_here, known_length, known_past, known_push}
 use Rattle.unit_answers.proofs.Keeping.{moved_end, moved_on, newest_all, newest_later}
 use Rattle.unit_answers.specs.View.{answers_of, known_from}
-use lib.ListN.{drop, length, length-set}
-use mathlib.Core.List.{◌++◌}
-use mathlib.Core.Path.{◌∙◌, ◌≡◌, refl}
+use lib.ListN.{length-set}
+use mathlib.Core.Path.{◌∙◌, refl}
 use native.Mathlib.Omega.{arith}
 use borrow.Author.Rules.{rules}
 use Rattle.unit_answers.proofs.DecentralRegistry.with_room.Goals as goal

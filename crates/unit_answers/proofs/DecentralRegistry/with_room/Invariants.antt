@@ -1,15 +1,10 @@
 -- One place down, one at a time: those moved so far, and those behind the place.
 use Prim.Native.Nat.{◌+◌, ◌-◌, ◌≤◌}
-use Rattle.laws.specs.Views.{firsts}
 use Rattle.rules.specs.House.{max_answers}
-use Rattle.unit_answers.proofs.Arrays.{known_here, known_length, known_past, known_push}
-use Rattle.unit_answers.proofs.Keeping.{moved_end, moved_on, newest_all, newest_later}
 use Rattle.unit_answers.specs.View.{answers_of, known_from}
-use lib.ListN.{drop, length, length-set}
+use lib.ListN.{drop, length}
 use mathlib.Core.List.{◌++◌}
-use mathlib.Core.Path.{◌∙◌, ◌≡◌, refl}
-use native.Mathlib.Omega.{arith}
-use borrow.Author.Rules.{rules}
+use mathlib.Core.Path.{◌≡◌}
 use Rattle.unit_answers.proofs.DecentralRegistry.with_room.Given as goal
 
 abbrev pub invariant-loop-i : goal.invariant-loop-i

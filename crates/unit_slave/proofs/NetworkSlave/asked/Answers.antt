@@ -8,7 +8,6 @@ use Rattle.unit_slave.specs.View.{slave_of}
 use Rattle.laws.specs.Bools.{cond_same}
 use borrow.Author.Tests.{eq-eqb, ne_eqb}
 use mathlib.Core.Path.{refl}
-use borrow.Author.Rules.{rules}
 use Rattle.unit_slave.proofs.NetworkSlave.asked.Goals as goal
 
 pub returns-then-position-self : goal.returns-then-position-self

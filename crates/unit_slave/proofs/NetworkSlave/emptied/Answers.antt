@@ -3,7 +3,6 @@ use Rattle.unit_slave.specs.Steps.{emptied_on}
 use Rattle.unit_slave.specs.View.{slave_of}
 use Rattle.wire_pairs.specs.View.{pairs_of}
 use native.Mathlib.Omega.{arith}
-use borrow.Author.Rules.{rules}
 use Rattle.unit_slave.proofs.NetworkSlave.emptied.Goals as goal
 
 pub returns : goal.returns

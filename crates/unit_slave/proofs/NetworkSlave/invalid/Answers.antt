@@ -4,7 +4,6 @@ use Rattle.rules_unit.specs.Slave.{Slave, besides, with_known}
 use Rattle.unit_slave.proofs.Hearing.{becomes_along, becomes_on, heard_invalid, unanswered}
 use Rattle.unit_slave.specs.View.{slave_of}
 use lib.ListN.{drop}
-use borrow.Author.Rules.{rules}
 use Rattle.unit_slave.proofs.NetworkSlave.invalid.Goals as goal
 
 pub returns : goal.returns

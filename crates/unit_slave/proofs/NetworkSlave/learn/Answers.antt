@@ -9,7 +9,6 @@ use Rattle.wire_pairs.specs.View.{pair_of}
 use Prim.Native.Nat.{ℕ}
 use mathlib.Core.List.{List}
 use mathlib.Core.Path.{refl, ◌∙◌, ap, sym}
-use borrow.Author.Rules.{rules}
 use Rattle.unit_slave.proofs.NetworkSlave.learn.Goals as goal
 
 pub returns-then-is_refusal : goal.returns-then-is_refusal

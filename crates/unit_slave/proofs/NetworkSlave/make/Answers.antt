@@ -3,7 +3,6 @@ use Rattle.unit_slave.proofs.Making.{made_number, made_unit, not_whole, too_many
 use Rattle.unit_slave.specs.Steps.{unread}
 use mathlib.Core.Path.{◌∙◌, ap}
 use native.Mathlib.Omega.{arith}
-use borrow.Author.Rules.{rules}
 use Rattle.unit_slave.proofs.NetworkSlave.make.Goals as goal
 
 pub returns-then-n-ne0 : goal.returns-then-n-ne0

@@ -2,7 +2,6 @@
 use Rattle.unit_slave.specs.Steps.{unread}
 use mathlib.Core.Path.{◌∙◌, ap, refl}
 use native.Mathlib.Omega.{arith}
-use borrow.Author.Rules.{rules}
 use Rattle.unit_slave.proofs.NetworkSlave.not_made.Goals as goal
 
 pub returns : goal.returns

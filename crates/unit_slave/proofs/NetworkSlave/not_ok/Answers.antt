@@ -1,7 +1,6 @@
 -- As the rules have it.
 use Rattle.unit_slave.proofs.Hearing.{becomes_along, heard_notok, unanswered}
 use Rattle.unit_slave.specs.View.{slave_of}
-use borrow.Author.Rules.{rules}
 use Rattle.unit_slave.proofs.NetworkSlave.not_ok.Goals as goal
 
 pub returns : goal.returns

@@ -1,7 +1,6 @@
 -- One test of the pass.
 use Rattle.unit_slave.proofs.Hearing.{becomes_along, other_pass, same_pass_lem}
 use Rattle.unit_slave.specs.View.{slave_of}
-use borrow.Author.Rules.{rules}
 use Rattle.unit_slave.proofs.NetworkSlave.on_pass.Goals as goal
 
 pub returns-then-pass-last : goal.returns-then-pass-last

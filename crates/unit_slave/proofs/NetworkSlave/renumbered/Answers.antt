@@ -1,7 +1,6 @@
 -- The pairs as they are renumbered.
 use Rattle.unit_slave.proofs.Hearing.{announces}
 use Rattle.unit_slave.specs.View.{slave_of}
-use borrow.Author.Rules.{rules}
 use Rattle.unit_slave.proofs.NetworkSlave.renumbered.Goals as goal
 
 pub returns : goal.returns

@@ -10,7 +10,6 @@ use borrow.Author.Tests.{eq-eqb, ne_eqb}
 use lib.Dec.{eqb}
 use mathlib.Core.Bool.{Bool, ◌&&◌, false}
 use mathlib.Core.Path.{◌∙◌, ◌≡◌, ap, refl, sym}
-use borrow.Author.Rules.{rules}
 use Rattle.unit_slave.proofs.NetworkSlave.set.Goals as goal
 
 pub returns-then-position-self : goal.returns-then-position-self

@@ -1,6 +1,5 @@
 -- The pass, and nothing else.
 use Rattle.unit_slave.proofs.Hearing.{unanswered}
-use borrow.Author.Rules.{rules}
 use Rattle.unit_slave.proofs.NetworkSlave.told.Goals as goal
 
 pub returns : goal.returns

@@ -3,7 +3,6 @@ use Rattle.unit_slave.proofs.Hearing.{besides_rest, besides_short, knows}
 use Rattle.unit_slave.specs.View.{slave_of}
 use Rattle.rules_unit.specs.Slave.{with_known}
 use mathlib.Core.Path.{◌∙◌}
-use borrow.Author.Rules.{rules}
 use Rattle.unit_slave.proofs.NetworkSlave.without_named.Goals as goal
 
 pub returns-then-order-lt-PAIRS : goal.returns-then-order-lt-PAIRS

@@ -10,7 +10,6 @@ use Rattle.ring_entries.specs.Verdicts.{verdict_of}
 use Rattle.rules.specs.House.{max_pass}
 use Rattle.rules.specs.Run.{Outcome, written}
 use Rattle.rules.specs.Step.{Verdict}
-use borrow.Author.Rules.{rules}
 use lib.ListN.{length}
 use mathlib.Core.Bool.{true, false}
 use mathlib.Core.Path.{◌≡◌, subst}

@@ -8,7 +8,6 @@ use Rattle.registry.specs.View.{view_of}
 use Rattle.rules.specs.Order.{encode_all}
 use Rattle.rules.specs.Picture.{is_silent}
 use Rattle.rules.specs.Step.{asks, delay_ends}
-use borrow.Author.Rules.{rules}
 use borrow.Author.Tests.{eq-eqb, ne_eqb}
 use lib.ListN.{length}
 use mathlib.Core.Bool.{false, not}

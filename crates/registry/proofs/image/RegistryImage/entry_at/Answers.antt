@@ -4,7 +4,6 @@ use Rattle.rules.specs.House.{max_units}
 use Rattle.row_entry.proofs.Arrays.{rows_length}
 use Rattle.registry.proofs.Places.{mapped_length, row_beyond, row_there, row_zero}
 use Rattle.registry.specs.View.{view_of}
-use borrow.Author.Rules.{rules}
 use lib.ListN.{length}
 use mathlib.Core.Path.{◌∙◌, ◌≡◌}
 use native.Mathlib.Nat.{pos_of_ne-zero}

@@ -2,7 +2,6 @@
 use Rattle.registry.proofs.Endings.{end_orders_lem, end_picture, ends}
 use Rattle.registry.specs.View.{view_of}
 use Rattle.rules.specs.Order.{Order, encode_all}
-use borrow.Author.Rules.{rules}
 use lib.ListN.{length}
 use mathlib.Core.List.{List}
 use mathlib.Core.Path.{subst}

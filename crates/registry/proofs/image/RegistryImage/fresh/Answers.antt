@@ -2,7 +2,6 @@
 use Rattle.registry.proofs.Stepping.{handed_fresh}
 use Rattle.registry.specs.View.{make_answer, view_of}
 use Rattle.rules.specs.Picture.{fresh, legal_size}
-use borrow.Author.Rules.{rules}
 use borrow.Author.Tests.{le-leb, lt-leb}
 use mathlib.Core.Path.{◌≡◌, refl}
 use Rattle.registry.proofs.image.RegistryImage.fresh.Goals as goal

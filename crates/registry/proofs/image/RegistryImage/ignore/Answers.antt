@@ -11,7 +11,6 @@ use Rattle.row_entry.specs.View.{rows_of}
 use Rattle.rules.specs.Ending.{told}
 use Rattle.rules.specs.Picture.{Row, seat_at, with_rows}
 use Rattle.rules.specs.Step.{rows_separately, change_rows, on_counted}
-use borrow.Author.Rules.{rules}
 use mathlib.Core.Bool.{true}
 use mathlib.Core.List.{List, [], ◌++◌, append-nil}
 use mathlib.Core.Path.{◌≡◌, ◌∙◌, ap, refl, sym}

@@ -1,7 +1,6 @@
 -- Of the entries of the ring.
 use Rattle.registry.specs.View.{view_of}
 use Rattle.rules_diff.specs.Differences.{listed_rows}
-use borrow.Author.Rules.{rules}
 use Rattle.registry.proofs.image.RegistryImage.listed_rows.Goals as goal
 
 pub returns : goal.returns

@@ -1,7 +1,6 @@
 -- The state first.
 use Rattle.registry.specs.View.{view_of}
 use Rattle.rules.specs.Listing.{listing, look_up}
-use borrow.Author.Rules.{rules}
 use mathlib.Core.Path.{◌∙◌, sym}
 use Rattle.registry.proofs.image.RegistryImage.look_up.Goals as goal
 

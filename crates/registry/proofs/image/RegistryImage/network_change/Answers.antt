@@ -10,7 +10,6 @@ use Rattle.rules.specs.Order.{NOTOK}
 use Rattle.rules.specs.Picture.{Picture, Row, new_row, with_rows}
 use Rattle.rules.specs.Run.{Outcome, concluded, written}
 use Rattle.rules.specs.Step.{change, respond, scan}
-use borrow.Author.Rules.{rules}
 use lib.ListN.{length, replicate}
 use mathlib.Core.List.{List, [], ◌∷◌}
 use mathlib.Core.Path.{◌≡◌, ◌∙◌, ap, refl, subst, sym}

@@ -8,7 +8,6 @@ use Rattle.ring_state.proofs.States.{by_state}
 use Rattle.registry.specs.View.{view_of}
 use Rattle.rules.specs.House.{max_units}
 use Rattle.rules.specs.Picture.{State, nodes, nodes_in}
-use borrow.Author.Rules.{rules}
 use borrow.Author.Tests.{ne_eqb}
 use lib.Dec.{eqb}
 use lib.ListN.{length}

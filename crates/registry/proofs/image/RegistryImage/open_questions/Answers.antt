@@ -1,6 +1,5 @@
 -- Of the entries of the ring.
 use Rattle.registry.specs.View.{view_of}
-use borrow.Author.Rules.{rules}
 use Rattle.registry.proofs.image.RegistryImage.open_questions.Goals as goal
 
 pub returns : goal.returns

@@ -1,13 +1,11 @@
 -- 1, then 2 to 4, then 5 to 8, then the event's own step.
-use Prim.Native.Nat.{ℕ, ◌≤◌}
+use Prim.Native.Nat.{ℕ}
 use Rattle.ring_answer.proofs.Hearing.{hears_conflict, hears_reply}
-use Rattle.ring_answer.specs.Hearing.{Hears, answered}
+use Rattle.ring_answer.specs.Hearing.{Hears}
 use Rattle.row_entry.specs.View.{rows_of}
 use Rattle.wire_pairs.specs.View.{pairs_of}
-use Rattle.wire_events.specs.View.{event_of}
 use Rattle.ring_refusals.specs.Numbers.{seat_in}
 use Rattle.registry.proofs.Doing.{refuses}
-use Rattle.registry.proofs.Places.{mapped_length}
 use Rattle.registry.proofs.Refusing.{next_place, place_below, place_row}
 use Rattle.registry.proofs.Recording.{Decoded, Untabled, answered_at, fits_at, formed, late_step, own_step, recorded_at, silent_at, tabled}
 use Rattle.registry.proofs.Stepping.{reached_size, recorded, step_1, step_refused}

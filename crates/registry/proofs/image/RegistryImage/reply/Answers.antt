@@ -6,7 +6,6 @@ use Rattle.registry.proofs.Places.{put_entry}
 use Rattle.registry.proofs.Replying.{closing_room, replied, told_room}
 use Rattle.registry.specs.View.{view_of}
 use Rattle.rules.specs.Picture.{with_rows}
-use borrow.Author.Rules.{rules}
 use mathlib.Core.Path.{refl}
 use Rattle.registry.proofs.image.RegistryImage.reply.Goals as goal
 

@@ -11,7 +11,6 @@ use Rattle.rules.specs.Listing.{listed_pairs}
 use Rattle.rules.specs.Picture.{Picture}
 use Rattle.rules.specs.Step.{rescan, rescanned}
 use Rattle.wire_pairs.specs.View.{pairs_from}
-use borrow.Author.Rules.{rules}
 use mathlib.Core.Bool.{false}
 use mathlib.Core.Path.{◌≡◌, ◌∙◌, ap}
 use native.Mathlib.Numerals.{add-one}

@@ -8,7 +8,6 @@ use Rattle.row_entry.specs.View.{rows_of}
 use Rattle.rules.specs.Order.{NOTOK}
 use Rattle.rules.specs.Picture.{Row, seat_at, with_rows}
 use Rattle.rules.specs.Step.{emptied, on_counted}
-use borrow.Author.Rules.{rules}
 use mathlib.Core.Bool.{false}
 use mathlib.Core.List.{List, [], ◌∷◌, map}
 use mathlib.Core.Path.{◌≡◌, ◌∙◌, ap, refl}

@@ -4,7 +4,6 @@ use Rattle.ring_state.specs.State.{runs, state_of}
 use Rattle.registry.specs.View.{view_of}
 use Rattle.rules.specs.Picture.{NotOk}
 use Rattle.rules.specs.Step.{scanned}
-use borrow.Author.Rules.{rules}
 use mathlib.Core.Bool.{false}
 use mathlib.Core.Path.{refl}
 use native.Mathlib.Numerals.{add-one}

@@ -1,7 +1,6 @@
 -- Nothing is written.
 use Rattle.registry.proofs.Scanning.{shuts}
 use Rattle.registry.specs.View.{view_of}
-use borrow.Author.Rules.{rules}
 use mathlib.Core.Path.{refl}
 use Rattle.registry.proofs.image.RegistryImage.shut_down.Goals as goal
 

@@ -7,7 +7,6 @@ use Rattle.registry.proofs.Scanning.{begins, second_room, starts, starts_not}
 use Rattle.registry.specs.View.{view_of}
 use Rattle.rules.specs.Order.{encode_all}
 use Rattle.rules.specs.Picture.{new_row, with_rows}
-use borrow.Author.Rules.{rules}
 use lib.ListN.{replicate}
 use mathlib.Core.List.{[]}
 use native.Mathlib.Omega.{arith}

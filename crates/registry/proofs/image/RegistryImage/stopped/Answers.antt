@@ -3,7 +3,6 @@ use Rattle.laws.specs.Views.{firsts}
 use Rattle.row_entry.specs.View.{rows_of}
 use Rattle.ring_state.specs.State.{runs, state_of}
 use Rattle.registry.specs.View.{view_of}
-use borrow.Author.Rules.{rules}
 use mathlib.Core.Path.{refl}
 use native.Mathlib.Omega.{arith}
 use Rattle.registry.proofs.image.RegistryImage.stopped.Goals as goal

@@ -15,7 +15,7 @@ returns c =
     let room = length a.out.now in
     let d = c.differences in
     let rows : compared_by (gathering_of c.gathered-before.result) (gathering_of c.gathered-after.result) room ≡ compare (map node_row_of a.first.now) (map node_row_of a.second.now) room =
-        ap (λ (g : Gathering). compared_by g (gathering_of c.gathered-after.result) room) c.gathered-before.ensures
-        ∙ ap (λ (g : Gathering). compared_by (gathered_all nothing_seen (map node_row_of a.first.now)) g room) c.gathered-after.ensures
-        ∙ compares_rows _ _ _ in
+    ap (λ (g : Gathering). compared_by g (gathering_of c.gathered-after.result) room) c.gathered-before.ensures
+    ∙ ap (λ (g : Gathering). compared_by (gathered_all nothing_seen (map node_row_of a.first.now)) g room) c.gathered-after.ensures
+    ∙ compares_rows _ _ _ in
     subst (λ (w : Compared). Compares w a.out.now d.result d.new.out) rows d.ensures

@@ -2,7 +2,6 @@
 use mathlib.Core.Path.{◌∙◌, ap}
 use Rattle.registry.specs.View.{make_number_of}
 use Rattle.lathepetal.proofs.Telling.{made}
-use borrow.Author.Rules.{rules}
 use Rattle.lathepetal.proofs.ring.lathepetal_fresh.Goals as goal
 
 pub returns : goal.returns

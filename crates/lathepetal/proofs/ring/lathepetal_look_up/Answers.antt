@@ -1,7 +1,6 @@
 -- The numbers of the look_up.
 use mathlib.Core.Path.{◌∙◌, ap}
 use Rattle.rules.specs.Listing.{lookup_number, lookup_position, lookup_address}
-use borrow.Author.Rules.{rules}
 use Rattle.lathepetal.proofs.ring.lathepetal_look_up.Goals as goal
 
 pub returns : goal.returns

@@ -1,7 +1,6 @@
 -- By the answer.
 use Rattle.lathepetal.specs.Numbers.{complete_of}
 use mathlib.Core.Path.{refl}
-use borrow.Author.Rules.{rules}
 use Rattle.lathepetal.proofs.telegrams.complete.Goals as goal
 
 pub returns-in-Refused : goal.returns-in-Refused

@@ -1,7 +1,6 @@
 -- The numbers of the count.
 use Rattle.rules.specs.Telegram.{count}
 use Rattle.lathepetal.proofs.Telling.{counts}
-use borrow.Author.Rules.{rules}
 use Rattle.lathepetal.proofs.telegrams.lathepetal_count.Goals as goal
 
 pub returns : goal.returns

@@ -2,7 +2,6 @@
 use lib.ListN.{length}
 use Rattle.rules.specs.Telegram.{cut}
 use Rattle.lathepetal.proofs.Telling.{cuts}
-use borrow.Author.Rules.{rules}
 use Rattle.lathepetal.proofs.telegrams.lathepetal_cut.Goals as goal
 
 pub returns : goal.returns

@@ -1,6 +1,5 @@
 -- The telegram as it is joined, with the numbers of its answer.
 use Rattle.lathepetal.proofs.Telling.{joins}
-use borrow.Author.Rules.{rules}
 use Rattle.lathepetal.proofs.telegrams.lathepetal_join.Goals as goal
 
 pub returns : goal.returns

@@ -1,6 +1,5 @@
 -- Each way hands the method the answer that the numbers stand for.
 use mathlib.Core.Path.{refl}
-use borrow.Author.Rules.{rules}
 use Rattle.unit_slave.specs.Steps.{is_refusal}
 use Rattle.lathepetal.proofs.Learning.{learn_refused, learn_found}
 use Rattle.lathepetal.proofs.unit.lathepetal_unit_learn.Goals as goal

@@ -23,7 +23,7 @@ letter : decimal_at (115 ∷ 116 ∷ 97 ∷ 114 ∷ 116 ∷ 32 ∷ 48 ∷ 48 ∷
 unfolding decimal_at behind needed start_of word_of end_of leading is_blank decimal_of all_digits number_from hex_value
 letter = refl
 
--- "f_f 1", as words of two digits
+-- "fF 1", as words of two digits
 either_case : hex_at (102 ∷ 70 ∷ 32 ∷ 49 ∷ []) 2 (found 0 0) ≡ found 255 2
 unfolding hex_at hex_found behind needed start_of word_of end_of leading is_blank all_digits number_from hex_value
 either_case = refl

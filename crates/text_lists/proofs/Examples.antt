@@ -6,7 +6,7 @@ use Rattle.text_words.specs.Text.{is_blank, hex_value, all_digits, number_from, 
 use Rattle.text_arguments.specs.Reading.{found, none, behind, words_from, bytes_found}
 use Rattle.text_lists.specs.Lists.{is_pair, pair_bytes_of, pair_reason, pairs_bytes, pairs_reason, pairs_at, pairs_stored, two_blanks, close_length, hex_length}
 
--- "22.01  f_e.0a"
+-- "22.01  fE.0a"
 two_pairs : pairs_at (50 ∷ 50 ∷ 46 ∷ 48 ∷ 49 ∷ 32 ∷ 32 ∷ 102 ∷ 69 ∷ 46 ∷ 48 ∷ 97 ∷ []) (found 0 0) ≡ found 2 12
 unfolding pairs_at behind bytes_found pairs_reason pair_reason is_pair words_from is_blank all_digits hex_value
 two_pairs = refl

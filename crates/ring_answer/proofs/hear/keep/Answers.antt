@@ -22,10 +22,10 @@ returns-then-len c =
     let ann-length : length (pairs_of ann) ≡ min ann.count max_pairs = let blocks : length ann.blocks ≡ max_pairs = search (rules, c.well_formed) in let numbers : length ann.numbers ≡ max_pairs = search (rules, c.well_formed) in pairs_length _ ann.blocks ann.numbers blocks numbers ann.count in
     let few : length (pairs_of ann) ≤ max_pairs = omega (arith, ann-length) in
     let kept-length : length (pairs_of kept) ≡ min kept.count max_pairs = let blocks : length kept.blocks ≡ max_pairs = search rules in let numbers : length kept.numbers ≡ max_pairs = search rules in pairs_length _ kept.blocks kept.numbers blocks numbers kept.count in
-    let all : length (pairs_of (kept)) ≡ length (pairs_of (ann)) = omega (arith, kept-length, ann-length, c.len.ensures, c.len-2.ensures, c.if-len.true) in
+    let all : length (pairs_of kept) ≡ length (pairs_of ann) = omega (arith, kept-length, ann-length, c.len.ensures, c.len-2.ensures, c.if-len.true) in
     record {
-      pairs = pairs_for (taken) (pairs_of (ann)) (few) c.judge-good.result c.args.held c.requires.1 c.judge-good.ensures c.good_pairs-kept.ensures;
-      step = set_none (taken) (pairs_of (ann)) (few) c.judge-good.result c.args.held c.requires.1 c.judge-good.ensures c.good_pairs-kept.ensures all;
+      pairs = pairs_for taken (pairs_of ann) few c.judge-good.result c.args.held c.requires.1 c.judge-good.ensures c.good_pairs-kept.ensures;
+      step = set_none taken (pairs_of ann) few c.judge-good.result c.args.held c.requires.1 c.judge-good.ensures c.good_pairs-kept.ensures all;
     }
 
 pub returns : goal.returns
@@ -36,6 +36,6 @@ returns c =
     let ann-length : length (pairs_of ann) ≡ min ann.count max_pairs = let blocks : length ann.blocks ≡ max_pairs = search (rules, c.well_formed) in let numbers : length ann.numbers ≡ max_pairs = search (rules, c.well_formed) in pairs_length _ ann.blocks ann.numbers blocks numbers ann.count in
     let few : length (pairs_of ann) ≤ max_pairs = omega (arith, ann-length) in
     record {
-      pairs = pairs_for (taken) (pairs_of (ann)) (few) c.judge-good.result c.args.held c.requires.1 c.judge-good.ensures c.good_pairs-kept.ensures;
-      step = set_for (taken) (pairs_of (ann)) (few) c.judge-good.result c.args.held c.requires.1 c.judge-good.ensures c.renumbering.ensures;
+      pairs = pairs_for taken (pairs_of ann) few c.judge-good.result c.args.held c.requires.1 c.judge-good.ensures c.good_pairs-kept.ensures;
+      step = set_for taken (pairs_of ann) few c.judge-good.result c.args.held c.requires.1 c.judge-good.ensures c.renumbering.ensures;
     }

@@ -25,8 +25,8 @@ ignore-requires c =
     let position : ℕ = c.args.position.0 in
     let address : ℕ = c.args.address.0 in
     let verdict : Verdict = verdict_of c.args.verdict in
-    let ignores : c.reaches_limit.result ≡ true → conflict_outcome (verdict) (view_of (image)) (position) (address) ≡ ignore_outcome (verdict) (view_of (image)) (position) (address) = conflict_limit (image) (position) c.requires.0 (address) (verdict) c.reaches_limit.ensures in
-    let room : (o : Outcome) → conflict_outcome (verdict) (view_of (image)) (position) (address) ≡ o → length (written o) ≤ length c.args.out.now = λ o e. subst (λ (o : Outcome). length (written o) ≤ length c.args.out.now) e c.requires.2 in
+    let ignores : c.reaches_limit.result ≡ true → conflict_outcome verdict (view_of image) position address ≡ ignore_outcome verdict (view_of image) position address = conflict_limit image position c.requires.0 address verdict c.reaches_limit.ensures in
+    let room : (o : Outcome) → conflict_outcome verdict (view_of image) position address ≡ o → length (written o) ≤ length c.args.out.now = λ o e. subst (λ (o : Outcome). length (written o) ≤ length c.args.out.now) e c.requires.2 in
     (c.requires.0, c.requires.1, room _ (ignores c.if-reaches_limit.true))
 
 pub returns-then-reaches_limit : goal.returns-then-reaches_limit
@@ -35,7 +35,7 @@ returns-then-reaches_limit c =
     let position : ℕ = c.args.position.0 in
     let address : ℕ = c.args.address.0 in
     let verdict : Verdict = verdict_of c.args.verdict in
-    let ignores : c.reaches_limit.result ≡ true → conflict_outcome (verdict) (view_of (image)) (position) (address) ≡ ignore_outcome (verdict) (view_of (image)) (position) (address) = conflict_limit (image) (position) c.requires.0 (address) (verdict) c.reaches_limit.ensures in
+    let ignores : c.reaches_limit.result ≡ true → conflict_outcome verdict (view_of image) position address ≡ ignore_outcome verdict (view_of image) position address = conflict_limit image position c.requires.0 address verdict c.reaches_limit.ensures in
     along (ignores c.if-reaches_limit.true) c.ignore.ensures
 
 pub returns-then-self-ge-MAX_PASS : goal.returns-then-self-ge-MAX_PASS
@@ -44,7 +44,7 @@ returns-then-self-ge-MAX_PASS c =
     let position : ℕ = c.args.position.0 in
     let address : ℕ = c.args.address.0 in
     let verdict : Verdict = verdict_of c.args.verdict in
-    let e = conflict_9 (image) (position) c.requires.0 (address) (verdict) c.reaches_limit.ensures c.if-reaches_limit.false c.if-self-ge-MAX_PASS.true in
+    let e = conflict_9 image position c.requires.0 address verdict c.reaches_limit.ensures c.if-reaches_limit.false c.if-self-ge-MAX_PASS.true in
     refuses c.args.out.now 9 e c.refuse.ensures
 
 pub restart-requires : goal.restart-requires
@@ -53,8 +53,8 @@ restart-requires c =
     let position : ℕ = c.args.position.0 in
     let address : ℕ = c.args.address.0 in
     let verdict : Verdict = verdict_of c.args.verdict in
-    let restarts : c.reaches_limit.result ≡ false → (image).pass < max_pass → conflict_outcome (verdict) (view_of (image)) (position) (address) ≡ restart_outcome (verdict) (view_of (image)) (position) (address) = conflict_restart (image) (position) c.requires.0 (address) (verdict) c.reaches_limit.ensures in
-    let room : (o : Outcome) → conflict_outcome (verdict) (view_of (image)) (position) (address) ≡ o → length (written o) ≤ length c.args.out.now = λ o e. subst (λ (o : Outcome). length (written o) ≤ length c.args.out.now) e c.requires.2 in
+    let restarts : c.reaches_limit.result ≡ false → image.pass < max_pass → conflict_outcome verdict (view_of image) position address ≡ restart_outcome verdict (view_of image) position address = conflict_restart image position c.requires.0 address verdict c.reaches_limit.ensures in
+    let room : (o : Outcome) → conflict_outcome verdict (view_of image) position address ≡ o → length (written o) ≤ length c.args.out.now = λ o e. subst (λ (o : Outcome). length (written o) ≤ length c.args.out.now) e c.requires.2 in
     (c.requires.0, c.if-self-ge-MAX_PASS.false, room _ (restarts c.if-reaches_limit.false c.if-self-ge-MAX_PASS.false))
 
 pub returns : goal.returns
@@ -63,5 +63,5 @@ returns c =
     let position : ℕ = c.args.position.0 in
     let address : ℕ = c.args.address.0 in
     let verdict : Verdict = verdict_of c.args.verdict in
-    let restarts : c.reaches_limit.result ≡ false → (image).pass < max_pass → conflict_outcome (verdict) (view_of (image)) (position) (address) ≡ restart_outcome (verdict) (view_of (image)) (position) (address) = conflict_restart (image) (position) c.requires.0 (address) (verdict) c.reaches_limit.ensures in
+    let restarts : c.reaches_limit.result ≡ false → image.pass < max_pass → conflict_outcome verdict (view_of image) position address ≡ restart_outcome verdict (view_of image) position address = conflict_restart image position c.requires.0 address verdict c.reaches_limit.ensures in
     along (restarts c.if-reaches_limit.false c.if-self-ge-MAX_PASS.false) c.restart.ensures

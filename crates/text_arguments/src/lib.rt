@@ -10,6 +10,22 @@ ghost use Rattle.text_arguments.specs.Reading.{any_number, found, none, decimal_
 use text_words::numbers::DecimalWord;
 use text_words::{numbers, words};
 
+// Why a line is not understood.
+#[derive(Clone, Copy, PartialEq, Eq, Debug)]
+pub enum Reason {
+    UnknownWord,
+    WordMissing,
+    NoDecimal,
+    DoesNotFit,
+    NoHex,
+    OddHex,
+    WrongHex,
+    WordTooMany,
+    TooLong,
+    NoPair,
+    TooMany,
+}
+
 // Why a line is not understood; 0 where it is.
 pub const UNDERSTOOD: u8 = 0;
 

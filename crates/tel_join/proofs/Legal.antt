@@ -1,11 +1,9 @@
--- What the tests of L and of a length tell.
+-- What the test of L tells.
 use Prim.Native.Nat.{ℕ, ◌≤◌}
 use mathlib.Core.Path.{◌≡◌, sym, ◌∙◌}
 use mathlib.Core.Bool.{Bool, true, false, not}
-use borrow.Author.Tests.{ltb-false}
-use lib.Dec.{ltb}
 use Rattle.laws.specs.Bools.{not_false}
-use Rattle.rules.specs.House.{min_size, max_size, max_payload}
+use Rattle.rules.specs.House.{min_size, max_size}
 use Rattle.rules.specs.Picture.{legal_size}
 use Rattle.rules.proofs.RoundTrip.{size_range}
 
@@ -15,6 +13,3 @@ module _ {b : Bool} (l : ℕ) (e : b ≡ not (legal_size l)) (h : b ≡ false) w
 
   pub range : (min_size ≤ l) × (l ≤ max_size)
   range = size_range l legal
-
-pub short : {b : Bool} (n : ℕ) → b ≡ ltb max_payload n → b ≡ false → n ≤ max_payload
-short n e h = ltb-false max_payload n (sym e ∙ h)

@@ -27,31 +27,6 @@ pub enum Reason {
     TooMany,
 }
 
-// The same by its number, 0 where there is none.
-pub const UNDERSTOOD: u8 = 0;
-
-pub const UNKNOWN_WORD: u8 = 1;
-
-pub const WORD_MISSING: u8 = 2;
-
-pub const NO_DECIMAL: u8 = 3;
-
-pub const DOES_NOT_FIT: u8 = 4;
-
-pub const NO_HEX: u8 = 5;
-
-pub const ODD_HEX: u8 = 6;
-
-pub const WRONG_HEX: u8 = 7;
-
-pub const WORD_TOO_MANY: u8 = 8;
-
-pub const TOO_LONG: u8 = 9;
-
-pub const NO_PAIR: u8 = 10;
-
-pub const TOO_MANY: u8 = 11;
-
 impl From<NotDecimal> for Reason {
     ghost from_gives = { λ word reason. reason ≡ reason_of word };
 

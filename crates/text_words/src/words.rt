@@ -28,7 +28,7 @@ pub fn word_end(line: &[u8], from: usize) -> usize
     from.max(line.len())
 }
 
-// The same bytes.
+// The same bytes: what `==` says of two words.
 pub fn same(word: &[u8], other: &[u8]) -> bool
     ensures { result ≡ same_word word.now other.now }
 {

@@ -15,11 +15,20 @@ use text_in::{Input, MAX_LINE};
 use text_out::Output;
 
 // What stands on the bench.
-pub trait Bench {
+pub trait Bench: Drop {
+    // What holds of it from line to line.
+    ghost holds: { Self → Type 0 } = { λ bench. Unit {0} };
+
+    // As it stands before the first line.
+    fn start() -> Self
+        ensures { holds result };
+
     // Does what a command line asks for, and puts the command in its normal form and what comes of it. A line that is no command is an Err,
     // and puts nothing.
     fn obey(&mut self, output: &mut Output, line: &[u8]) -> Result<(), Reason>
-        ensures { IfErr result (λ reason. output.new ≡ output.old) };
+        requires { holds self.old }
+        ensures kept { holds self.new }
+        ensures quiet { IfErr result (λ reason. output.new ≡ output.old) };
 }
 
 // An argument of a program is there, of any length.
@@ -31,7 +40,9 @@ pub fn is_there(argument: Result<usize, FillError>) -> bool
 
 // A line of any kind: a remark is written back, an earlier answer is passed over, and a command is obeyed. `other` stands in front of the
 // other side's lines.
-pub fn answer<B: Bench>(bench: &mut B, output: &mut Output, line: &[u8], other: u8)
+fn answer<B: Bench>(bench: &mut B, output: &mut Output, line: &[u8], other: u8)
+    requires { B.holds bench.old }
+    ensures kept { B.holds bench.new }
     ensures remark { kind_of other line.now ≡ Remark → Puts output.old (lined line.now) output.new × (bench.new ≡ bench.old) }
     ensures passed_over { kind_of other line.now ≡ EarlierAnswer → (output.new ≡ output.old) × (bench.new ≡ bench.old) }
 {
@@ -47,9 +58,10 @@ pub fn answer<B: Bench>(bench: &mut B, output: &mut Output, line: &[u8], other: 
 }
 
 // The script, line by line, up to its end or to a failed write; nothing is left waiting to be written.
-pub fn play<B: Bench>(bench: &mut B, input: &mut Input, output: &mut Output, other: u8)
+pub fn play<B: Bench>(input: &mut Input, output: &mut Output, other: u8)
     ensures { output.old.waiting ≡ 0 → output.new.waiting ≡ 0 }
 {
+    let mut bench = B::start();
     let mut line = [0u8; MAX_LINE];
     // A loop has to end; no script is as long as this.
     for _ in 0..u64::MAX {
@@ -57,7 +69,7 @@ pub fn play<B: Bench>(bench: &mut B, input: &mut Input, output: &mut Output, oth
             return;
         };
         match line.get(..length) {
-            Some(fits) => answer(bench, output, fits, other),
+            Some(fits) => answer(&mut bench, output, fits, other),
             None => text_answers::not_understood(output, &line, Reason::TooLong),
         }
         output.drain();

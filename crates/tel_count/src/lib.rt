@@ -4,38 +4,9 @@
 ghost use Rattle.std.specs.Prelude.{◌≡◌, ◌≤◌};
 ghost use Rattle.rules.specs.House.{min_size, max_payload};
 ghost use Rattle.rules.specs.Telegram.{count_of, count};
-ghost use Rattle.tel_count.specs.Answers.{count_number_of, count_value_of, count_answer};
+ghost use Rattle.tel_count.specs.Answers.{count_answer};
 
-use numbers::{DONE, ILLEGAL_SIZE, PAYLOAD_TOO_LONG};
-
-// What `count` answers: the number of a refusal, or how many telegrams the message has.
-#[derive(Clone, Copy)]
-pub enum CountAnswer {
-    Refused(u8),
-    Telegrams(usize),
-}
-
-impl CountAnswer {
-    // The number given back: 0 where the message is counted.
-    pub fn number(self) -> u8
-        ensures { result ≡ count_number_of self }
-    {
-        match self {
-            CountAnswer::Refused(number) => number,
-            CountAnswer::Telegrams(_) => DONE,
-        }
-    }
-
-    // How many telegrams: 0 beside a refusal.
-    pub fn telegrams(self) -> usize
-        ensures { result ≡ count_value_of self }
-    {
-        match self {
-            CountAnswer::Refused(_) => 0,
-            CountAnswer::Telegrams(telegrams) => telegrams,
-        }
-    }
-}
+use numbers::Refusal;
 
 // How many telegrams a message of n bytes has.
 fn count_of(l: usize, n: usize) -> usize
@@ -49,15 +20,10 @@ fn count_of(l: usize, n: usize) -> usize
 }
 
 // How many telegrams a message has, or 10 or 11.
-pub fn count(l: usize, payload: &[u8]) -> CountAnswer
-    ensures { result ≡ count_answer (count l payload.now) }
+pub fn count(l: usize, payload: &[u8]) -> Result<usize, Refusal>
+    ensures { count_answer result ≡ count l payload.now }
 {
-    if sizes::illegal(l) {
-        return CountAnswer::Refused(ILLEGAL_SIZE);
-    }
     let n = payload.len();
-    if sizes::too_long(n) {
-        return CountAnswer::Refused(PAYLOAD_TOO_LONG);
-    }
-    CountAnswer::Telegrams(count_of(l, n))
+    tel_head::allowed(l, n)?;
+    Ok(count_of(l, n))
 }

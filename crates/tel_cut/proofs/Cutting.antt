@@ -17,8 +17,11 @@ use Rattle.rules.specs.Telegram.{count_of, tel_id_for, part_of, telegram, telegr
 use Rattle.rules.specs.Event.{two, four}
 use Rattle.rules.proofs.RoundTrip.{size_range, telegram_length, telegram_at, telegram_one, count_one, cuts as cuts_are}
 use Rattle.tel_cut.specs.Parts.{part_id}
+use Rattle.std.specs.Prelude.{Ok, Err}
+use Rattle.numbers.specs.declared.Refusal.{Refusal}
+use Rattle.numbers.specs.Numbers.{number_of}
+use Rattle.tel_head.specs.Allowed.{Forbids}
 use Rattle.tel_cut.specs.Answers.{cut_answer, Cuts}
-use Rattle.tel_cut.specs.declared.CutAnswer.TheVariants as cuts
 
 -- the refusals of cutting, each by its test
 module _ (l m : ℕ) (payload : List ℕ) (k room : ℕ) where
@@ -143,33 +146,39 @@ module _ (l m : ℕ) (payload : List ℕ) (k before size : ℕ) (low : min_size 
   part_length = rw (length-take, length-drop) (omega arith)
 
 -- what the code tells, from the rules' answer
-pub refused : {c : Cut} {n : ℕ} (b : List ℕ) → c ≡ uncut n → Cuts c b (cuts.Refused n) b
+pub refused : {c : Cut} {r : Refusal} (b : List ℕ) → c ≡ uncut (number_of r) → Cuts c b (Err r) b
 unfolding cut_bytes
 refused b e = record { answered = sym (ap cut_answer e); buffer = sym (ap (λ (c : Cut). sets b 0 (cut_bytes c)) e) }
 
-pub written : {c : Cut} (b t after : List ℕ) (n : ℕ) → c ≡ cut_to t → n ≡ length t → after ≡ sets b 0 t → Cuts c b (cuts.Length n) after
+pub written : {c : Cut} (b t after : List ℕ) (n : ℕ) → c ≡ cut_to t → n ≡ length t → after ≡ sets b 0 t → Cuts c b (Ok n) after
 unfolding cut_bytes
-written b t after n e f g = record { answered = ap cuts.Length f ∙ sym (ap cut_answer e); buffer = g ∙ sym (ap (λ (c : Cut). sets b 0 (cut_bytes c)) e) }
+written b t after n e f g = record { answered = ap Ok f ∙ sym (ap cut_answer e); buffer = g ∙ sym (ap (λ (c : Cut). sets b 0 (cut_bytes c)) e) }
+
+-- 10 and 11
+pub forbidden : (l m : ℕ) (payload b : List ℕ) (k room : ℕ) (r : Refusal) → Forbids l (length payload) r → Cuts (cut l m payload k room) b (Err r) b
+forbidden l m payload b k room r (inl f) = refused b (at_10 l m payload k room (ap not f.1) ∙ ap uncut (sym (ap number_of f.0)))
+forbidden l m payload b k room r (inr f) = refused b (at_11 l m payload k room f.1 (lt-ltb _ _ f.2) ∙ ap uncut (sym (ap number_of f.0)))
 
 -- the bytes that the code stores are the telegram's
-pub stored_single : (m : ℕ) (payload b b₁ b₂ : List ℕ) → b₁ ≡ sets b 0 (four m ++ head_bytes 0 (length payload)) → b₂ ≡ sets b₁ 6 payload
+pub stored_single : (m : ℕ) {id : ℕ} (payload b b₁ b₂ : List ℕ) → id ≡ 0 → b₁ ≡ sets b 0 (four m ++ head_bytes id (length payload)) → b₂ ≡ sets b₁ 6 payload
     → b₂ ≡ sets b 0 (telegram m 0 payload)
 unfolding telegram head_bytes four two
-stored_single m payload b b₁ b₂ e f = f ∙ ap (λ (x : List ℕ). sets x 6 payload) e
+stored_single m payload b b₁ b₂ i e f =
+    f ∙ ap (λ (x : List ℕ). sets x 6 payload) e ∙ (λ j. sets (sets b 0 (four m ++ head_bytes (i j) (length payload))) 6 payload)
 
-pub stored_part : (m size id counter : ℕ) (part b b₁ b₂ : List ℕ) → length part ≡ size
-    → b₁ ≡ sets b 0 (four m ++ head_bytes id (1 + size)) → b₂ ≡ sets (set b₁ 6 counter) 7 part → b₂ ≡ sets b 0 (telegram m id (counter ∷ part))
+pub stored_part : (m counter : ℕ) {id n : ℕ} (part b b₁ b₂ : List ℕ) → id ≡ n → b₁ ≡ sets b 0 (four m ++ head_bytes id (1 + length part))
+    → b₂ ≡ sets (set b₁ 6 counter) 7 part → b₂ ≡ sets b 0 (telegram m n (counter ∷ part))
 unfolding telegram head_bytes four two
-stored_part m size id counter part b b₁ b₂ n e f =
-    let d : 1 + size ≡ length (counter ∷ part) = omega arith in
+stored_part m counter part b b₁ b₂ i e f =
+    let d : 1 + length part ≡ length (counter ∷ part) = omega arith in
     f
     ∙ ap (λ (x : List ℕ). sets (set x 6 counter) 7 part) e
-    ∙ (λ j. sets (set (sets b 0 (four m ++ head_bytes id (d j))) 6 counter) 7 part)
+    ∙ (λ j. sets (set (sets b 0 (four m ++ head_bytes (i j) (d j))) 6 counter) 7 part)
 
--- the bytes of a part stand in the payload, and with the counter byte they are no more than a TelLen tells
-pub part_inside : (l n from size room : ℕ) → legal_size l ≡ true → from < n → size ≡ min (l - 1) (n - from) → 7 + size ≤ room
-    → (from ≤ from + size) × (from + size ≤ n) × (1 + (from + size - from) < 4096) × (7 + (from + size - from) ≤ room)
-part_inside l n from size room legal f s g = omega (arith, size_range l legal)
+-- the bytes of a part and the counter byte are no more than a TelLen tells, and have room
+pub part_inside : (l : ℕ) (payload : List ℕ) (from size room : ℕ) → legal_size l ≡ true → size ≡ min (l - 1) (length payload - from) → 7 + size ≤ room
+    → (1 + length (take (from + size - from) (drop from payload)) < 4096) × (7 + length (take (from + size - from) (drop from payload)) ≤ room)
+part_inside l payload from size room legal s g = rw (length-take, length-drop) (omega (arith, size_range l legal))
 
 -- the answers for a payload above L
 module _ (l m : ℕ) (payload : List ℕ) (legal : legal_size l ≡ true) (h : l < length payload) (short : length payload ≤ max_payload) (k room : ℕ) where
@@ -208,7 +217,7 @@ module _ (l m : ℕ) (payload : List ℕ) (legal : legal_size l ≡ true) (h : l
 
       pub part_cuts : {id counter : ℕ} {part : List ℕ} (b after : List ℕ) → 7 + size ≤ room
           → id ≡ part_id (k - 1) (length payload - (k - 1) * (l - 1)) (l - 1) → counter ≡ (k - 1) % 256 → part ≡ take size (drop ((k - 1) * (l - 1)) payload)
-          → after ≡ sets b 0 (telegram m id (counter ∷ part)) → Cuts (cut l m payload k room) b (cuts.Length (7 + size)) after
+          → after ≡ sets b 0 (telegram m id (counter ∷ part)) → Cuts (cut l m payload k room) b (Ok (7 + size)) after
       part_cuts b after g i c p e =
           written b _ after (7 + size)
           ((cuts_are l m payload legal short).cuts k room (pos_of_ne-zero some) (within l (length payload) k (k - 1) low h behind f) (omega (arith, part_long)) ∙ ap cut_to part_bytes)

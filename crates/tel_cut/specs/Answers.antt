@@ -1,23 +1,20 @@
--- What cutting answers: its numbers and values, and what each answer of the rules is in code.
-use Rattle.std.specs.Prelude.{ℕ, ◌≡◌, List, length}
+-- What cutting answers: a refusal by its number, a telegram by its length.
+use Rattle.std.specs.Prelude.{ℕ, ◌≡◌, List, length, Result, Ok, Err}
 use Rattle.std.proofs.lemmas.List.Edits.{sets}
 use Rattle.rules.specs.Telegram as rules
-use Rattle.tel_cut.specs.declared.CutAnswer.{CutAnswer}
-use Rattle.tel_cut.specs.declared.CutAnswer.TheVariants as cuts
+use Rattle.numbers.specs.declared.Refusal.{Refusal}
+use Rattle.numbers.specs.Numbers.{number_of}
 
-abbrev pub cut_number_of : CutAnswer → ℕ
-cut_number_of (cuts.Refused n) = n
-cut_number_of (cuts.Length n) = 0
+abbrev pub cut_answer : rules.Cut → Result ℕ ℕ
+cut_answer (rules.uncut n) = Err n
+cut_answer (rules.cut_to t) = Ok (length t)
 
-abbrev pub cut_length_of : CutAnswer → ℕ
-cut_length_of (cuts.Refused n) = 0
-cut_length_of (cuts.Length n) = n
-
-abbrev pub cut_answer : rules.Cut → CutAnswer
-cut_answer (rules.uncut n) = cuts.Refused n
-cut_answer (rules.cut_to t) = cuts.Length (length t)
+-- an answer in code, with the number of its refusal
+abbrev pub numbered : Result ℕ Refusal → Result ℕ ℕ
+numbered (Ok n) = Ok n
+numbered (Err r) = Err (number_of r)
 
 -- What cutting does: the answer, and the lent buffer afterwards, which has the telegram at its start and is else as it was.
-pub record Cuts (c : rules.Cut) (before : List ℕ) (answer : CutAnswer) (after : List ℕ) : Type 0 where
-  pub answered : answer ≡ cut_answer c
+pub record Cuts (c : rules.Cut) (before : List ℕ) (answer : Result ℕ Refusal) (after : List ℕ) : Type 0 where
+  pub answered : numbered answer ≡ cut_answer c
   pub buffer : after ≡ sets before 0 (rules.cut_bytes c)

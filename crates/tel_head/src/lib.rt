@@ -1,10 +1,14 @@
-// The bytes of one telegram: its head written and read, and its part of the message copied.
+// What telegrams are there for, and the bytes of one: its head written and read, and its part of the message copied.
 #![tactic(auto)]
 
 ghost use Rattle.std.specs.Prelude.{◌≡◌, ◌++◌, ◌+◌, ◌*◌, ◌/◌, ◌≤◌, ◌<◌, length, get_or, take, drop};
 ghost use Rattle.std.proofs.lemmas.List.Edits.{sets};
 ghost use Rattle.rules.specs.Event.{be4, four};
 ghost use Rattle.rules.specs.Telegram.{head_bytes, tel_id_of, tel_len_of, malformed};
+ghost use Rattle.tel_head.specs.Allowed.{Allows};
+ghost use Rattle.tel_head.specs.Kinds.{tel_id_number, Reads};
+
+use numbers::Refusal;
 
 // MsgID, TelID and TelLen.
 pub const HEAD: usize = 6;
@@ -12,41 +16,60 @@ pub const HEAD: usize = 6;
 // Where the counter byte stands in a telegram of several.
 pub const COUNTER: usize = HEAD;
 
-pub const TEL_ID_SINGLE: u32 = 0;
-
-pub const TEL_ID_FIRST: u32 = 1;
-
-pub const TEL_ID_NEXT: u32 = 2;
-
-pub const TEL_ID_FINAL: u32 = 3;
-
-// Eight bytes of `part`, from `from` on. All are read before one is written, so that they move as one word.
-fn copy8(buffer: &mut [u8], at: usize, part: &[u8], from: usize)
-    requires { (at + 8 ≤ length buffer.old) × (from + 8 ≤ length part.now) }
-    ensures { buffer.new ≡ sets buffer.old at (take 8 (drop from part.now)) }
-{
-    let high = wire_octets::read4(part, from);
-    let low = wire_octets::read4(part, from + 4);
-    wire_octets::write4(buffer, at, high);
-    wire_octets::write4(buffer, at + 4, low);
+// What a telegram is in its message, by its TelID.
+#[derive(Clone, Copy, Debug, PartialEq, Eq)]
+pub enum TelId {
+    Single = 0,
+    First = 1,
+    Next = 2,
+    Final = 3,
 }
 
-// Copies `part` into `buffer`, from `at` on: as many bytes as leave words of eight, then these words.
+impl TelId {
+    // The number in a head.
+    pub fn number(self) -> u32
+        ensures { (result ≡ tel_id_number self) × (result < 4) }
+    {
+        self as u32
+    }
+}
+
+impl TryFrom<u32> for TelId {
+    type Error = Refusal;
+
+    ghost try_from_gives = { Reads };
+
+    // A number above 3 is passed over: 15.
+    fn try_from(number: u32) -> Result<TelId, Refusal> {
+        match number {
+            0 => Ok(TelId::Single),
+            1 => Ok(TelId::First),
+            2 => Ok(TelId::Next),
+            3 => Ok(TelId::Final),
+            _ => Err(Refusal::TelIdPassedOver),
+        }
+    }
+}
+
+// L is from 12 to 45 and a message of n bytes is not too long, or 10 or 11.
+pub fn allowed(l: usize, n: usize) -> Result<(), Refusal>
+    ensures { Allows l n result }
+{
+    if sizes::illegal(l) {
+        return Err(Refusal::IllegalSize);
+    }
+    if sizes::too_long(n) {
+        return Err(Refusal::PayloadTooLong);
+    }
+    Ok(())
+}
+
+// Copies `part` into `buffer`, from `at` on.
 pub fn store(buffer: &mut [u8], at: usize, part: &[u8])
     requires { at + length part.now ≤ length buffer.old }
     ensures { buffer.new ≡ sets buffer.old at part.now }
 {
-    let n = part.len();
-    let odd = n % 8;
-    let mut i = 0;
-    while i < odd {
-        buffer[at + i] = part[i];
-        i += 1;
-    }
-    while i < n {
-        copy8(buffer, at + i, part, i);
-        i += 8;
-    }
+    buffer[at..at + part.len()].copy_from_slice(part);
 }
 
 // TelID and the high bits of TelLen in one byte.
@@ -71,10 +94,7 @@ pub fn write_head(buffer: &mut [u8], msg_id: u32, tel_id: u32, tel_len: u32)
 fn octet(bytes: &[u8], at: usize) -> u8
     ensures { result ≡ get_or bytes.now at 0 }
 {
-    if bytes.len() <= at {
-        return 0;
-    }
-    bytes[at]
+    bytes.get(at).copied().unwrap_or(0)
 }
 
 // The MsgID of a telegram.
@@ -90,7 +110,7 @@ pub fn msg_id(telegram: &[u8]) -> u32
 pub fn tel_id(telegram: &[u8]) -> u32
     ensures { result ≡ tel_id_of telegram.now }
 {
-    (octet(telegram, 4) >> 4) as u32
+    u32::from(octet(telegram, 4) >> 4)
 }
 
 // The TelLen of a telegram.
@@ -104,26 +124,10 @@ fn tel_len(telegram: &[u8]) -> usize
 pub fn malformed(l: usize, telegram: &[u8]) -> bool
     ensures { result ≡ malformed l telegram.now }
 {
-    let n = telegram.len();
-    if n < HEAD {
-        return true;
-    }
     let tel_len = tel_len(telegram);
-    if n != HEAD + tel_len {
-        return true;
-    }
-    if l < tel_len {
-        return true;
-    }
-    if tel_len != 0 {
-        return false;
-    }
     let tel_id = tel_id(telegram);
-    if tel_id < TEL_ID_FIRST {
-        return false;
-    }
-    if TEL_ID_FINAL < tel_id {
-        return false;
-    }
-    true
+    telegram.len() < HEAD
+        || telegram.len() != HEAD + tel_len
+        || l < tel_len
+        || tel_len == 0 && TelId::First as u32 <= tel_id && tel_id <= TelId::Final as u32
 }

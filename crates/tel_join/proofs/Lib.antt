@@ -1,2 +1,3 @@
 -- Laws that several functions' proofs use.
+pub mod Legal
 pub mod Taking

@@ -1,24 +1,36 @@
 -- Taking: what the code hands back for a telegram by its TelID, what the refusals keep, and what a well-formed telegram has.
-use Prim.Native.Nat.{ℕ, ◌+◌, ◌-◌, ◌≤◌}
+use Prim.Native.Nat.{ℕ, ◌+◌, ◌-◌, ◌≤◌, ◌<◌}
 use mathlib.Core.Path.{◌≡◌, refl, sym, ap, ◌∙◌}
 use mathlib.Core.Bool.{Bool, true, false, not, ◌&&◌, ◌||◌}
 use mathlib.Core.List.{List}
 use mathlib.Core.Logic.{◌⊎◌, inl, inr}
 use native.Mathlib.Omega.{arith}
 use native.Mathlib.Nat.{pos_of_ne-zero}
-use borrow.Author.Tests.{le-leb, eq-eqb, ne_eqb, eqb-true, eqb-false, ltb-false}
+use borrow.Author.Tests.{le-leb, eqb-true, eqb-false, ltb-false}
 use lib.Dec.{eqb, ltb, leb}
 use lib.ListN.{length, get_or, take, drop, length-drop}
-use lib.Seq.{sets, take_all, drop-drop, get_or-drop}
-use Rattle.laws.specs.Bools.{clash, decide, not_false, or_left, or_right, and_true, cond_true, cond_false}
+use lib.Seq.{sets, take_all}
+use Rattle.std.specs.Prelude.{Option, Some, Result, Ok, Err}
+use Rattle.laws.specs.Bools.{clash, decide, not_false, or_left, or_right, and_true, cond_false}
 use Rattle.rules.specs.Event.{be4}
-use Rattle.rules.specs.Telegram.{begins, continues, join_to, malformed, tel_len_of, tel_id_of}
+use Rattle.rules.specs.Telegram.{join_to, malformed, tel_len_of, tel_id_of}
 use Rattle.rules.specs.Telegram as rules
-use Rattle.tel_join_state.specs.declared.Joined.{Joined}
+use Rattle.numbers.specs.declared.Refusal.{Refusal}
+use Rattle.numbers.specs.Numbers.{number_of}
+use Rattle.tel_head.specs.declared.TelId.{TelId}
+use Rattle.tel_head.specs.declared.TelId.TheVariants as ids
+use Rattle.tel_head.specs.Kinds.{tel_id_number}
+use Rattle.tel_join_state.specs.declared.Message.{Message}
 use Rattle.tel_join_state.specs.declared.Reassembly.{Reassembly}
 use Rattle.tel_join_state.specs.Answers.{joining_of, state_of, handed_back, Joins}
-use Rattle.tel_join_state.specs.declared.JoinAnswer.TheVariants as joins
 use Rattle.tel_join_state.proofs.Joining.{along}
+
+-- a TelID that is read is below 4
+pub small : (id : TelId) → tel_id_number id < 4
+small ids.Single = omega arith
+small ids.First = omega arith
+small ids.Next = omega arith
+small ids.Final = omega arith
 
 -- the bytes behind the first k
 rest : (k : ℕ) (t : List ℕ) → take (length t - k) (drop k t) ≡ drop k t
@@ -26,32 +38,32 @@ rest k t = take_all (length t - k) (drop k t) (omega (arith, length-drop k t))
 
 -- a telegram by its TelID
 module _ (id : ℕ) (came : Reassembly) (t b : List ℕ) {m : ℕ} (e : m ≡ be4 t 0) where
-  pub takes_single : {n : ℕ} {st : Reassembly} {after : List ℕ} → id ≡ 0 → n ≡ length t - 6 → (joining_of st ≡ rules.idle) × (st ≡ state_of rules.idle)
-      → after ≡ sets b 0 (take (length t - 6) (drop 6 t)) → Joins came (join_to id (joining_of came) (be4 t 0) (drop 6 t) b) (record { answer = joins.Complete m n; state = st }) after
+  body : List ℕ
+  body = take (length t - 6) (drop 6 t)
+
+  pub takes_single : {st : Reassembly} {after : List ℕ} → id ≡ 0 → (joining_of st ≡ rules.idle) × (st ≡ state_of rules.idle)
+      → after ≡ sets b 0 (take (length t - 6) (drop 6 t))
+      → Joins came (join_to id (joining_of came) (be4 t 0) (drop 6 t) b) (Ok (Some (record { msg_id = m; length = length (take (length t - 6) (drop 6 t)) }))) st after
   unfolding join_to handed_back
-  takes_single i n f g =
-      along (cond_true _ _ (eq-eqb id 0 i))
-      (record { answered = (λ j. joins.Complete (e j) ((n ∙ sym (length-drop 6 t)) j)); next = f.0; numbers = f.1; buffer = g ∙ ap (sets b 0) (rest 6 t) })
+  takes_single i f g =
+      along (ap (λ (z : ℕ). join_to z (joining_of came) (be4 t 0) (drop 6 t) b) i)
+      (record { answered = (λ j. rules.complete (e j) (length (rest 6 t j))); next = f.0; numbers = f.1; buffer = g ∙ ap (sets b 0) (rest 6 t) })
 
-  module _ (several : id ≡ 0 → ⊥) {r : Joined} {after : List ℕ} where
-    pub takes_first : id ≡ 1 → Joins came (begins m (get_or t 6 0) (take (length t - 7) (drop 7 t)) b) r after → Joins came (join_to id (joining_of came) (be4 t 0) (drop 6 t) b) r after
-    unfolding join_to
-    takes_first i h =
-        along (cond_false _ _ (ne_eqb id 0 several) ∙ cond_true _ _ (eq-eqb id 1 i)
-        ∙ (λ j. begins (sym e j) (get_or-drop 6 t 0 0 j) ((drop-drop 1 6 t ∙ sym (rest 7 t)) j) b)) h
-
-    pub takes_part : (id ≡ 1 → ⊥) → Joins came (continues (eqb id 3) (joining_of came) m (get_or t 6 0) (take (length t - 7) (drop 7 t)) b) r after
-        → Joins came (join_to id (joining_of came) (be4 t 0) (drop 6 t) b) r after
-    unfolding join_to
-    takes_part i h =
-        along (cond_false _ _ (ne_eqb id 0 several) ∙ cond_false _ _ (ne_eqb id 1 i)
-        ∙ (λ j. continues (eqb id 3) (joining_of came) (sym e j) (get_or-drop 6 t 0 0 j) ((drop-drop 1 6 t ∙ sym (rest 7 t)) j) b)) h
+  -- one of several, by what the rules do with its counter byte and its part
+  pub takes_part : {n : ℕ} {a : Result (Option Message) Refusal} {st : Reassembly} {after : List ℕ} (f : ℕ → ℕ → List ℕ → rules.Joined) → id ≡ n
+      → join_to n (joining_of came) (be4 t 0) (drop 6 t) b ≡ f (be4 t 0) (get_or (drop 6 t) 0 0) (drop 1 (drop 6 t))
+      → Joins came (f m (get_or (take (length t - 6) (drop 6 t)) 0 0) (take (length (take (length t - 6) (drop 6 t)) - 1) (drop 1 (take (length t - 6) (drop 6 t))))) a st after
+      → Joins came (join_to id (joining_of came) (be4 t 0) (drop 6 t) b) a st after
+  unfolding body
+  takes_part f i g h =
+      along (ap (λ (z : ℕ). join_to z (joining_of came) (be4 t 0) (drop 6 t) b) i ∙ g
+      ∙ (λ j. f (sym e j) (get_or (sym (rest 6 t) j) 0 0) (drop 1 (sym (rest 6 t) j)))
+      ∙ ap (f m (get_or body 0 0)) (sym (rest 1 body))) h
 
 -- 10, 13, 14 and 15
-pub keeps : {j : rules.Joined} {r : Joined} (s : Reassembly) (b : List ℕ) (n : ℕ) → eqb n 16 ≡ false → j ≡ rules.unchanged n (joining_of s) b
-    → (r.answer ≡ joins.Refused n) × (r.state ≡ s) → Joins s j r b
+pub keeps : {j : rules.Joined} {r : Refusal} (s : Reassembly) (b : List ℕ) → eqb (number_of r) 16 ≡ false → j ≡ rules.unchanged (number_of r) (joining_of s) b → Joins s j (Err r) s b
 unfolding rules.unchanged handed_back
-keeps s b n other e f = along e (record { answered = f.0; next = ap joining_of f.1; numbers = f.1 ∙ sym (cond_false (state_of (joining_of s)) s other); buffer = refl })
+keeps s b other e = along e (record { answered = refl; next = refl; numbers = sym (cond_false (state_of (joining_of s)) s other); buffer = refl })
 
 -- a telegram that is not malformed
 module _ (l : ℕ) (t : List ℕ) (h : malformed l t ≡ false) where

@@ -14,8 +14,9 @@ use Rattle.rules.specs.House.{min_size, max_size, max_payload}
 use Rattle.rules.specs.Picture.{legal_size}
 use Rattle.rules.specs.Telegram.{count_of, tel_id_for, part_of, telegram_of, cut, cut_to, cut_bytes}
 use Rattle.rules.proofs.RoundTrip.{size_range, telegram_length, cuts}
-use Rattle.tel_cut.specs.declared.CutAnswer.{CutAnswer}
-use Rattle.tel_cut.specs.Answers.{cut_answer, cut_length_of, Cuts}
+use Rattle.std.specs.Prelude.{Ok, Err}
+use Rattle.numbers.specs.declared.Refusal.{Refusal}
+use Rattle.tel_cut.specs.Answers.{cut_answer, Cuts}
 
 -- a telegram has at most L bytes behind its head
 fits : (l m : ℕ) (payload : List ℕ) (k : ℕ) → min_size ≤ l → length (telegram_of l m payload k) ≤ 6 + l
@@ -30,21 +31,26 @@ module _ (l m : ℕ) (payload : List ℕ) (k : ℕ) (legal : legal_size l ≡ tr
   room : length (telegram_of l m payload k) ≤ 6 + max_size
   room = omega (arith, fits l m payload k (size_range l legal).0, size_range l legal)
 
-  module _ {b after : List ℕ} {r : CutAnswer} (long : length b ≡ 6 + max_size) (h : Cuts (cut l m payload k (length b)) b r after) where
-    is : cut l m payload k (length b) ≡ cut_to (telegram_of l m payload k)
-    is = (cuts l m payload legal short).cuts k (length b) low high (omega (arith, room))
+  is : (b : List ℕ) → length b ≡ 6 + max_size → cut l m payload k (length b) ≡ cut_to (telegram_of l m payload k)
+  is b long = (cuts l m payload legal short).cuts k (length b) low high (omega (arith, room))
 
-    size : cut_length_of r ≡ length (telegram_of l m payload k)
-    size = ap cut_length_of (h.answered ∙ ap cut_answer is)
+  module _ (b : List ℕ) {after : List ℕ} (long : length b ≡ 6 + max_size) where
+    -- it is not refused
+    pub never : {r : Refusal} → Cuts (cut l m payload k (length b)) b (Err r) after → ⊥
+    never h = let e = h.answered ∙ ap cut_answer (is b long) in cc
 
-    stored : after ≡ sets b 0 (telegram_of l m payload k)
-    unfolding cut_bytes
-    stored = h.buffer ∙ ap (λ c. sets b 0 (cut_bytes c)) is
+    module _ {n : ℕ} (h : Cuts (cut l m payload k (length b)) b (Ok n) after) where
+      size : n ≡ length (telegram_of l m payload k)
+      size = let e = h.answered ∙ ap cut_answer (is b long) in cc
 
-    pub inside : cut_length_of r ≤ length after
-    inside = omega (arith, size, room, ap length stored ∙ length-sets b 0 (telegram_of l m payload k))
+      stored : after ≡ sets b 0 (telegram_of l m payload k)
+      unfolding cut_bytes
+      stored = h.buffer ∙ ap (λ c. sets b 0 (cut_bytes c)) (is b long)
 
-    pub read_back : take (cut_length_of r) after ≡ telegram_of l m payload k
-    read_back =
-        (λ i. take (size i) ((stored ∙ sets_start b (telegram_of l m payload k) (omega (arith, room))) i))
-        ∙ take-append_seam (telegram_of l m payload k) _
+      pub inside : n ≤ length after
+      inside = omega (arith, size, room, ap length stored ∙ length-sets b 0 (telegram_of l m payload k))
+
+      pub read_back : take n after ≡ telegram_of l m payload k
+      read_back =
+          (λ i. take (size i) ((stored ∙ sets_start b (telegram_of l m payload k) (omega (arith, room))) i))
+          ∙ take-append_seam (telegram_of l m payload k) _

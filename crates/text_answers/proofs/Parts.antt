@@ -1,14 +1,23 @@
 -- A line's kind by its first byte, and the parts of what is said.
-use Prim.Native.Nat.{ℕ, ◌-◌}
+use Prim.Native.Nat.{ℕ, ◌≤◌, ◌<◌}
 use mathlib.Core.Path.{◌≡◌, refl, sym, ◌∙◌, ap}
-use mathlib.Core.Bool.{Bool, cond, ◌||◌}
+use mathlib.Core.Bool.{Bool, true, false, not, cond, ◌||◌}
+use mathlib.Core.Logic.{◌⊎◌, inl, inr}
+use denote.Enum.Bare.{sameb}
+use Rattle.std.specs.Bool.{◌==◌}
+use Rattle.std.proofs.lemmas.List.{take_all, take-take, length-take}
+use Rattle.text_arguments.specs.contracts.Reason.{the_type}
 use mathlib.Core.List.{List, [], ◌∷◌, ◌++◌}
 use native.Mathlib.Omega.{arith}
-use borrow.Author.Tests.{eq-eqb, ne_eqb}
+use borrow.Author.Tests.{eq-eqb, ne_eqb, lt-ltb, le-ltb}
+use Rattle.std.proofs.lemmas.Bool.{eqb-true}
+use Rattle.text_words.specs.Text.{trimmed_length}
 use lib.Dec.{eqb}
 use lib.ListN.{length, take}
-use Rattle.laws.specs.Bools.{cond_true, cond_false, or_false, or_true_left, or_true_right}
-use Rattle.text_out.specs.Spelling.{lined, value_of, filled_from, filled}
+use Rattle.laws.specs.Bools.{clash, cond_true, cond_false, or_false, or_true_left, or_true_right}
+use Rattle.text_arguments.specs.declared.Reason.{Reason}
+use Rattle.text_arguments.specs.declared.Reason.TheVariants.{UnknownWord, WordMissing, NoDecimal, DoesNotFit, NoHex, OddHex, WrongHex, WordTooMany, TooLong, NoPair, TooMany}
+use Rattle.text_out.specs.Spelling.{lined, decimal_of, value_of, filled_from, filled}
 use Rattle.text_out.specs.Texts.{codes}
 use Rattle.text_numbers.specs.declared.Asked.{Asked}
 use Rattle.text_numbers.specs.Wording.{words_of, why_of}
@@ -31,38 +40,71 @@ module _ (other : ℕ) {x : ℕ} {xs rest : List ℕ} (e : xs ≡ x ∷ rest) wh
     unfolding kind_of
     kind_else h = sym (ap (kind_of other) e ∙ cond_false _ _ (ne_eqb x 35 n) ∙ ap (λ (b : Bool). cond b EarlierAnswer Offer) h)
 
-    pub kind_answered : x ≡ 61 → EarlierAnswer ≡ kind_of other xs
-    kind_answered h = kind_else (or_true_left (eqb x 61) _ (eq-eqb x 61 h))
+    pub kind_answered : (x ≡ 33) ⊎ (x ≡ 61) → EarlierAnswer ≡ kind_of other xs
+    kind_answered (inl h) = kind_else (or_true_right (eqb x 61) _ (or_true_right (eqb x other) _ (eq-eqb x 33 h)))
+    kind_answered (inr h) = kind_else (or_true_left (eqb x 61) _ (eq-eqb x 61 h))
 
     pub kind_other : x ≡ other → EarlierAnswer ≡ kind_of other xs
     kind_other h = kind_else (or_true_right (eqb x 61) _ (or_true_left (eqb x other) _ (eq-eqb x other h)))
 
-    pub kind_refused : x ≡ 33 → EarlierAnswer ≡ kind_of other xs
-    kind_refused h = kind_else (or_true_right (eqb x 61) _ (or_true_right (eqb x other) _ (eq-eqb x 33 h)))
-
-    pub kind_offer : (x ≡ 61 → ⊥) → (x ≡ other → ⊥) → (x ≡ 33 → ⊥) → Offer ≡ kind_of other xs
-    kind_offer a b c = kind_else (or_false _ _ (ne_eqb x 61 a) (or_false _ _ (ne_eqb x other b) (ne_eqb x 33 c)))
+    pub kind_offer : ((x ≡ 33) ⊎ (x ≡ 61) → ⊥) → (x ≡ other → ⊥) → Offer ≡ kind_of other xs
+    kind_offer a b = kind_else (or_false _ _ (ne_eqb x 61 (λ h. a (inr h))) (or_false _ _ (ne_eqb x other b) (ne_eqb x 33 (λ h. a (inl h)))))
 
 -- a blank before bytes
-pub spaced_none : (xs : List ℕ) → length xs ≡ 0 → 10 ∷ [] ≡ lined (spaced_of xs)
+pub spaced_none : (xs : List ℕ) {b : Bool} → b ≡ (length xs == 0) → b ≡ true → 10 ∷ [] ≡ lined (spaced_of xs)
 unfolding spaced_of
-spaced_none [] h = refl
-spaced_none (x ∷ xs) h = absurd (omega (arith, h))
+spaced_none [] e h = refl
+spaced_none (x ∷ xs) e h = absurd (omega (arith, eqb-true (length (x ∷ xs)) 0 (sym e ∙ h)))
 
-pub spaced_some : (xs : List ℕ) → (length xs ≡ 0 → ⊥) → (32 ∷ []) ++ lined xs ≡ lined (spaced_of xs)
+pub spaced_some : (xs : List ℕ) {b : Bool} → b ≡ (length xs == 0) → b ≡ false → (32 ∷ []) ++ lined xs ≡ lined (spaced_of xs)
 unfolding spaced_of
-spaced_some [] h = absurd (h refl)
-spaced_some (x ∷ xs) h = refl
+spaced_some [] e h = clash e h
+spaced_some (x ∷ xs) e h = refl
+
+-- a line is written back whole, or the start of a too long one
+shown_whole : (line : List ℕ) {n : ℕ} → n ≡ length line → line ≡ take n line
+shown_whole line e = sym (take_all _ line (omega (arith, e)))
+
+pub shown_all : (line : List ℕ) (reason : Reason) {b : Bool} → b ≡ not (sameb the_type reason TooLong) → (b ≡ true) ⊎ ((b ≡ false) × (length line ≤ 64))
+    → line ≡ take (shown_of line reason) line
+unfolding shown_of
+shown_all line TooLong e (inl h) = clash h e
+shown_all line TooLong e (inr h) = shown_whole line (cond_false _ _ (le-ltb _ _ h.1))
+shown_all line UnknownWord e h = shown_whole line refl
+shown_all line WordMissing e h = shown_whole line refl
+shown_all line NoDecimal e h = shown_whole line refl
+shown_all line DoesNotFit e h = shown_whole line refl
+shown_all line NoHex e h = shown_whole line refl
+shown_all line OddHex e h = shown_whole line refl
+shown_all line WrongHex e h = shown_whole line refl
+shown_all line WordTooMany e h = shown_whole line refl
+shown_all line NoPair e h = shown_whole line refl
+shown_all line TooMany e h = shown_whole line refl
+
+pub shown_start : (line : List ℕ) (reason : Reason) {b : Bool} {n : ℕ} → b ≡ not (sameb the_type reason TooLong) → b ≡ false → 64 < length line
+    → n ≡ trimmed_length (take 64 line) → n ≤ length (take 64 line) → take n (take 64 line) ≡ take (shown_of line reason) line
+unfolding shown_of
+shown_start line TooLong {n = n} e h l t m =
+    take-take n 64 line (omega (arith, m, length-take 64 line)) ∙ ap (λ (k : ℕ). take k line) (t ∙ sym (cond_true _ _ (lt-ltb _ _ l)))
+shown_start line UnknownWord e h l t m = clash e h
+shown_start line WordMissing e h l t m = clash e h
+shown_start line NoDecimal e h l t m = clash e h
+shown_start line DoesNotFit e h l t m = clash e h
+shown_start line NoHex e h l t m = clash e h
+shown_start line OddHex e h l t m = clash e h
+shown_start line WrongHex e h l t m = clash e h
+shown_start line WordTooMany e h l t m = clash e h
+shown_start line NoPair e h l t m = clash e h
+shown_start line TooMany e h l t m = clash e h
 
 -- the parts of a comment
-pub comment_is : (line : List ℕ) (reason : ℕ) {told end : ℕ} → told ≡ told_of line reason → end ≡ shown_of line told
-    → (35 ∷ []) ++ lined (spaced_of (take (end - 0) line)) ++ codes "# not understood: " ++ lined (why_of told) ≡ not_understood line reason
+pub comment_is : (line : List ℕ) (reason : Reason) {told : Reason} {shown : List ℕ} → told ≡ told_of line reason → shown ≡ take (shown_of line told) line
+    → (35 ∷ []) ++ lined (spaced_of shown) ++ codes "# not understood: " ++ lined (why_of told) ≡ not_understood line reason
 unfolding comment_of
-comment_is line reason {told} {end} e f =
-    let all : end - 0 ≡ shown_of line told = omega arith in
-    ap (λ (n : ℕ). (35 ∷ []) ++ lined (spaced_of (take n line)) ++ codes "# not understood: " ++ lined (why_of told)) all ∙ ap (comment_of line) e
+comment_is line reason {told} {shown} e f =
+    ap (λ (l : List ℕ). (35 ∷ []) ++ lined (spaced_of l) ++ codes "# not understood: " ++ lined (why_of told)) f ∙ ap (comment_of line) e
 
 -- the parts of a refusal
-pub refusal_is : (asked : Asked) (n : ℕ) → filled (codes "! %d  ") (n ∷ []) ++ lined (words_of asked n) ≡ refusal_of asked n
+pub refusal_is : (asked : Asked) {n m : ℕ} → m ≡ n → filled (codes "! %d  ") (m ∷ []) ++ lined (words_of asked n) ≡ refusal_of asked n
 unfolding refusal_of filled_from value_of
-refusal_is asked n = refl
+refusal_is asked {n} {m} e = ap (λ (k : ℕ). codes "! " ++ decimal_of k ++ codes "  " ++ lined (words_of asked n)) e

@@ -2,6 +2,8 @@
 use Rattle.std.specs.Prelude.{ℕ, ◌-◌, cond, ◌||◌, List, [], ◌∷◌, ◌++◌, eqb, ltb, length, take}
 use Prim.Native.Char.{code}
 use Rattle.text_words.specs.Text.{trimmed_length}
+use Rattle.text_arguments.specs.declared.Reason.{Reason}
+use Rattle.text_arguments.specs.declared.Reason.TheVariants.{TooLong}
 use Rattle.text_in.specs.Lines.{max_line}
 use Rattle.text_out.specs.Spelling.{lined, decimal_of}
 use Rattle.text_out.specs.Texts.{codes}
@@ -16,20 +18,17 @@ unfoldable pub kind_of : ℕ → List ℕ → LineKind
 kind_of other [] = Remark
 kind_of other (x ∷ xs) = cond (eqb x (code "#")) Remark (cond (eqb x (code "=") || (eqb x other || eqb x (code "!"))) EarlierAnswer Offer)
 
--- the reason of a line that is too long
-abbrev pub too_long : ℕ
-too_long = 9
-
 -- the reason that is told: also where the comment would be too long
-unfoldable pub told_of : List ℕ → ℕ → ℕ
-told_of line reason = cond (ltb (max_line - 2) (length line)) too_long reason
+unfoldable pub told_of : List ℕ → Reason → Reason
+told_of line reason = cond (ltb (max_line - 2) (length line)) TooLong reason
 
 -- how much of the line is written back: of a too long one its first 64 bytes, without the blanks at their end
 abbrev pub shown_most : ℕ
 shown_most = 64
 
-unfoldable pub shown_of : List ℕ → ℕ → ℕ
-shown_of line reason = cond (eqb reason too_long) (cond (ltb shown_most (length line)) (trimmed_length (take shown_most line)) (length line)) (length line)
+unfoldable pub shown_of : List ℕ → Reason → ℕ
+shown_of line TooLong = cond (ltb shown_most (length line)) (trimmed_length (take shown_most line)) (length line)
+shown_of line _ = length line
 
 -- a blank and bytes, or nothing where there are none
 unfoldable pub spaced_of : List ℕ → List ℕ
@@ -37,10 +36,10 @@ spaced_of [] = []
 spaced_of (x ∷ xs) = code " " ∷ x ∷ xs
 
 -- a line that is no command, as a comment, and why
-unfoldable pub comment_of : List ℕ → ℕ → List ℕ
+unfoldable pub comment_of : List ℕ → Reason → List ℕ
 comment_of line reason = (code "#" ∷ lined (spaced_of (take (shown_of line reason) line))) ++ codes "# not understood: " ++ lined (why_of reason)
 
-abbrev pub not_understood : List ℕ → ℕ → List ℕ
+abbrev pub not_understood : List ℕ → Reason → List ℕ
 not_understood line reason = comment_of line (told_of line reason)
 
 -- a refusal: its number and what that means, by what was asked

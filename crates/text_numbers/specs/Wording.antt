@@ -1,6 +1,8 @@
 -- The words of a number: what a refusal means, by what was asked, and why a line is not understood.
 use Rattle.std.specs.Prelude.{ℕ, cond, List, [], ◌∷◌, eqb}
 use Rattle.rules.specs.House.{min_size, max_size, max_units, max_pairs, min_room, min_answer_room, max_payload}
+use Rattle.text_arguments.specs.declared.Reason.{Reason}
+use Rattle.text_arguments.specs.declared.Reason.TheVariants.{UnknownWord, WordMissing, NoDecimal, DoesNotFit, NoHex, OddHex, WrongHex, WordTooMany, TooLong, NoPair, TooMany}
 use Rattle.text_in.specs.Lines.{max_line}
 use Rattle.text_out.specs.Spelling.{filled}
 use Rattle.text_out.specs.Texts.{codes}
@@ -16,12 +18,12 @@ abbrev pub no_words : List ℕ
 no_words = codes "no words for this number"
 
 -- the words beside a number in a table
-unfoldable pub words_beside : Table → ℕ → List ℕ
+abbrev pub words_beside : Table → ℕ → List ℕ
 words_beside [] n = no_words
 words_beside (row ∷ rows) n = cond (eqb n row.0) row.1 (words_beside rows n)
 
 -- what a record is refused for
-unfoldable pub of_record : Table
+abbrev pub of_record : Table
 of_record =
     (1, filled (codes "order room below %d bytes") (min_room ∷ []))
     ∷ (2, codes "record malformed")
@@ -38,11 +40,11 @@ of_record =
 abbrev pub wrong_size : List ℕ
 wrong_size = filled (codes "L is not %d to %d") (min_size ∷ max_size ∷ [])
 
-unfoldable pub of_picture : Table
+abbrev pub of_picture : Table
 of_picture = (10, wrong_size) ∷ []
 
 -- a telegram, when it is counted, cut or joined
-unfoldable pub of_telegram : Table
+abbrev pub of_telegram : Table
 of_telegram =
     (10, wrong_size)
     ∷ (11, filled (codes "payload above %d bytes") (max_payload ∷ []))
@@ -54,19 +56,19 @@ of_telegram =
     ∷ []
 
 -- a look-up
-unfoldable pub of_look_up : Table
+abbrev pub of_look_up : Table
 of_look_up = (17, codes "not listed") ∷ (18, codes "the state is not OK") ∷ []
 
 -- an order
-unfoldable pub of_order : Table
+abbrev pub of_order : Table
 of_order = (1, filled (codes "room below %d bytes") (min_answer_room ∷ [])) ∷ (2, codes "order malformed") ∷ []
 
 -- a unit
-unfoldable pub of_unit : Table
+abbrev pub of_unit : Table
 of_unit = (2, filled (codes "more than %d pairs") (max_pairs ∷ [])) ∷ []
 
 -- a comparison of two lists of rows
-unfoldable pub of_compare : Table
+abbrev pub of_compare : Table
 of_compare =
     (2, filled (codes "position not 1 to %d, more than %d pairs, or a pair twice") (max_units ∷ max_pairs ∷ []))
     ∷ (20, codes "rows not in rising position order")
@@ -74,7 +76,7 @@ of_compare =
     ∷ []
 
 -- the table by what was asked, and what a number given back means
-unfoldable pub table_of : Asked → Table
+abbrev pub table_of : Asked → Table
 table_of Record = of_record
 table_of Picture = of_picture
 table_of Telegram = of_telegram
@@ -86,21 +88,16 @@ table_of Compare = of_compare
 abbrev pub words_of : Asked → ℕ → List ℕ
 words_of asked n = words_beside (table_of asked) n
 
--- why a line is not understood, by the number of the reason
-unfoldable pub reasons : Table
-reasons =
-    (1, codes "unknown word")
-    ∷ (2, codes "a word is missing")
-    ∷ (3, codes "not a decimal number")
-    ∷ (4, codes "number does not fit")
-    ∷ (5, codes "not hexadecimal")
-    ∷ (6, codes "odd number of hex digits")
-    ∷ (7, codes "wrong number of hex digits")
-    ∷ (8, codes "a word too many")
-    ∷ (9, filled (codes "line of more than %d bytes") (max_line ∷ []))
-    ∷ (10, codes "not a pair")
-    ∷ (11, codes "too many")
-    ∷ []
-
-abbrev pub why_of : ℕ → List ℕ
-why_of n = words_beside reasons n
+-- why a line is not understood
+abbrev pub why_of : Reason → List ℕ
+why_of UnknownWord = codes "unknown word"
+why_of WordMissing = codes "a word is missing"
+why_of NoDecimal = codes "not a decimal number"
+why_of DoesNotFit = codes "number does not fit"
+why_of NoHex = codes "not hexadecimal"
+why_of OddHex = codes "odd number of hex digits"
+why_of WrongHex = codes "wrong number of hex digits"
+why_of WordTooMany = codes "a word too many"
+why_of TooLong = filled (codes "line of more than %d bytes") (max_line ∷ [])
+why_of NoPair = codes "not a pair"
+why_of TooMany = codes "too many"

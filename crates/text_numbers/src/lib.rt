@@ -1,5 +1,5 @@
 // The words of a number: what a refusal means, by what was asked, and why a line is not understood.
-#![tactic(auto)]
+#![tactic(auto, using(crate::proofs::Tables::told), unfolding(text_out::specs::Spelling::filled_from, text_out::specs::Spelling::value_of, text_out::specs::Spelling::decimal_of, text_out::specs::Spelling::width_of, text_out::specs::Spelling::places_by))]
 
 ghost use Rattle.text_out.specs.Puts.{Puts};
 ghost use Rattle.text_out.specs.Spelling.{lined};
@@ -12,16 +12,13 @@ use numbers::{
     ROWS_NOT_RISING, TEL_ID_PASSED_OVER, TELEGRAM_MALFORMED, WRONG_PASS,
 };
 use sizes::{MAX_PAIRS, MAX_PAYLOAD, MAX_SIZE, MAX_UNITS, MIN_ANSWER_ROOM, MIN_ROOM, MIN_SIZE};
-use text_arguments::{
-    DOES_NOT_FIT, NO_DECIMAL, NO_HEX, NO_PAIR, ODD_HEX, TOO_LONG, TOO_MANY, UNKNOWN_WORD,
-    WORD_MISSING, WORD_TOO_MANY, WRONG_HEX,
-};
+use text_arguments::Reason;
 use text_in::MAX_LINE;
-use text_out::{Output, SPACE};
+use text_out::Output;
 
 // What was asked, and has its own numbers: a record to take, a fresh picture, a telegram to count, cut or join, a look-up, an
 // order to read, a unit to make, two lists of rows to compare.
-#[derive(Clone, Copy)]
+#[derive(Clone, Copy, Debug, PartialEq, Eq)]
 pub enum Asked {
     Record,
     Picture,
@@ -33,135 +30,133 @@ pub enum Asked {
 }
 
 // A number without a row: words that are no refusal's.
-fn no_words(output: Output, text: &mut [u8; SPACE]) -> Output
-    ensures { Puts output text.old (lined no_words) result text.new }
+fn no_words(output: &mut Output)
+    ensures { Puts output.old (lined no_words) output.new }
 {
-    output.line(text, b"no words for this number")
+    output.line(b"no words for this number")
 }
 
 // What a record is refused for.
-fn of_record(output: Output, text: &mut [u8; SPACE], number: u8) -> Output
-    ensures { Puts output text.old (lined (words_beside of_record number)) result text.new }
+fn of_record(output: &mut Output, number: u8)
+    ensures { Puts output.old (lined (words_beside of_record number)) output.new }
 {
     match number {
-        ORDER_ROOM_TOO_SHORT => output.form(text, b"order room below %d bytes\n", &[MIN_ROOM]),
-        RECORD_MALFORMED => output.line(text, b"record malformed"),
-        NOT_RUNNING => output.line(text, b"the ring does not run"),
-        ALREADY_RUNNING => output.line(text, b"the ring runs already"),
-        WRONG_PASS => output.line(text, b"not the current pass"),
-        NO_SUCH_POSITION => output.line(text, b"no unit at this position"),
-        POSITION_IGNORED => output.line(text, b"the position is ignored"),
-        NOT_ASKED => output.line(text, b"no open question, or no running delay"),
-        NO_PASS_LEFT => output.line(text, b"no pass is left"),
-        _ => no_words(output, text),
+        ORDER_ROOM_TOO_SHORT => output.form(b"order room below %d bytes\n", &[MIN_ROOM]),
+        RECORD_MALFORMED => output.line(b"record malformed"),
+        NOT_RUNNING => output.line(b"the ring does not run"),
+        ALREADY_RUNNING => output.line(b"the ring runs already"),
+        WRONG_PASS => output.line(b"not the current pass"),
+        NO_SUCH_POSITION => output.line(b"no unit at this position"),
+        POSITION_IGNORED => output.line(b"the position is ignored"),
+        NOT_ASKED => output.line(b"no open question, or no running delay"),
+        NO_PASS_LEFT => output.line(b"no pass is left"),
+        _ => no_words(output),
     }
 }
 
 // What a fresh picture is refused for.
-fn of_picture(output: Output, text: &mut [u8; SPACE], number: u8) -> Output
-    ensures { Puts output text.old (lined (words_beside of_picture number)) result text.new }
+fn of_picture(output: &mut Output, number: u8)
+    ensures { Puts output.old (lined (words_beside of_picture number)) output.new }
 {
     match number {
-        ILLEGAL_SIZE => output.form(text, b"L is not %d to %d\n", &[MIN_SIZE, MAX_SIZE]),
-        _ => no_words(output, text),
+        ILLEGAL_SIZE => output.form(b"L is not %d to %d\n", &[MIN_SIZE, MAX_SIZE]),
+        _ => no_words(output),
     }
 }
 
 // What a telegram is refused for, when it is counted, cut or joined.
-fn of_telegram(output: Output, text: &mut [u8; SPACE], number: u8) -> Output
-    ensures { Puts output text.old (lined (words_beside of_telegram number)) result text.new }
+fn of_telegram(output: &mut Output, number: u8)
+    ensures { Puts output.old (lined (words_beside of_telegram number)) output.new }
 {
     match number {
-        ILLEGAL_SIZE => output.form(text, b"L is not %d to %d\n", &[MIN_SIZE, MAX_SIZE]),
-        PAYLOAD_TOO_LONG => output.form(text, b"payload above %d bytes\n", &[MAX_PAYLOAD]),
-        NO_SUCH_TELEGRAM => output.line(text, b"no telegram of this number"),
-        ROOM_TOO_SHORT => output.line(text, b"lent room too short"),
-        TELEGRAM_MALFORMED => output.line(text, b"telegram malformed"),
-        TEL_ID_PASSED_OVER => output.line(text, b"TelID above 3: passed over"),
-        OUT_OF_SEQUENCE => output.line(text, b"out of sequence: an open message is dropped"),
-        _ => no_words(output, text),
+        ILLEGAL_SIZE => output.form(b"L is not %d to %d\n", &[MIN_SIZE, MAX_SIZE]),
+        PAYLOAD_TOO_LONG => output.form(b"payload above %d bytes\n", &[MAX_PAYLOAD]),
+        NO_SUCH_TELEGRAM => output.line(b"no telegram of this number"),
+        ROOM_TOO_SHORT => output.line(b"lent room too short"),
+        TELEGRAM_MALFORMED => output.line(b"telegram malformed"),
+        TEL_ID_PASSED_OVER => output.line(b"TelID above 3: passed over"),
+        OUT_OF_SEQUENCE => output.line(b"out of sequence: an open message is dropped"),
+        _ => no_words(output),
     }
 }
 
 // What a look-up is refused for.
-fn of_look_up(output: Output, text: &mut [u8; SPACE], number: u8) -> Output
-    ensures { Puts output text.old (lined (words_beside of_look_up number)) result text.new }
+fn of_look_up(output: &mut Output, number: u8)
+    ensures { Puts output.old (lined (words_beside of_look_up number)) output.new }
 {
     match number {
-        NOT_LISTED => output.line(text, b"not listed"),
-        NOT_OK => output.line(text, b"the state is not OK"),
-        _ => no_words(output, text),
+        NOT_LISTED => output.line(b"not listed"),
+        NOT_OK => output.line(b"the state is not OK"),
+        _ => no_words(output),
     }
 }
 
 // What an order is refused for.
-fn of_order(output: Output, text: &mut [u8; SPACE], number: u8) -> Output
-    ensures { Puts output text.old (lined (words_beside of_order number)) result text.new }
+fn of_order(output: &mut Output, number: u8)
+    ensures { Puts output.old (lined (words_beside of_order number)) output.new }
 {
     match number {
-        ORDER_ROOM_TOO_SHORT => output.form(text, b"room below %d bytes\n", &[MIN_ANSWER_ROOM]),
-        RECORD_MALFORMED => output.line(text, b"order malformed"),
-        _ => no_words(output, text),
+        ORDER_ROOM_TOO_SHORT => output.form(b"room below %d bytes\n", &[MIN_ANSWER_ROOM]),
+        RECORD_MALFORMED => output.line(b"order malformed"),
+        _ => no_words(output),
     }
 }
 
 // What a unit is refused for.
-fn of_unit(output: Output, text: &mut [u8; SPACE], number: u8) -> Output
-    ensures { Puts output text.old (lined (words_beside of_unit number)) result text.new }
+fn of_unit(output: &mut Output, number: u8)
+    ensures { Puts output.old (lined (words_beside of_unit number)) output.new }
 {
     match number {
-        RECORD_MALFORMED => output.form(text, b"more than %d pairs\n", &[MAX_PAIRS]),
-        _ => no_words(output, text),
+        RECORD_MALFORMED => output.form(b"more than %d pairs\n", &[MAX_PAIRS]),
+        _ => no_words(output),
     }
 }
 
 // What a comparison of two lists is refused for.
-fn of_compare(output: Output, text: &mut [u8; SPACE], number: u8) -> Output
-    ensures { Puts output text.old (lined (words_beside of_compare number)) result text.new }
+fn of_compare(output: &mut Output, number: u8)
+    ensures { Puts output.old (lined (words_beside of_compare number)) output.new }
 {
     match number {
         RECORD_MALFORMED => output.form(
-            text,
             b"position not 1 to %d, more than %d pairs, or a pair twice\n",
             &[MAX_UNITS, MAX_PAIRS],
         ),
-        ROWS_NOT_RISING => output.line(text, b"rows not in rising position order"),
-        NO_ROOM_FOR_DIFFERENCES => output.line(text, b"no room for all differences"),
-        _ => no_words(output, text),
+        ROWS_NOT_RISING => output.line(b"rows not in rising position order"),
+        NO_ROOM_FOR_DIFFERENCES => output.line(b"no room for all differences"),
+        _ => no_words(output),
     }
 }
 
 // What a number given back means, by what was asked.
-pub fn meaning(output: Output, text: &mut [u8; SPACE], asked: Asked, number: u8) -> Output
-    ensures { Puts output text.old (lined (words_of asked number)) result text.new }
+pub fn meaning(output: &mut Output, asked: Asked, number: u8)
+    ensures { Puts output.old (lined (words_of asked number)) output.new }
 {
     match asked {
-        Asked::Record => of_record(output, text, number),
-        Asked::Picture => of_picture(output, text, number),
-        Asked::Telegram => of_telegram(output, text, number),
-        Asked::LookUp => of_look_up(output, text, number),
-        Asked::Order => of_order(output, text, number),
-        Asked::Unit => of_unit(output, text, number),
-        Asked::Compare => of_compare(output, text, number),
+        Asked::Record => of_record(output, number),
+        Asked::Picture => of_picture(output, number),
+        Asked::Telegram => of_telegram(output, number),
+        Asked::LookUp => of_look_up(output, number),
+        Asked::Order => of_order(output, number),
+        Asked::Unit => of_unit(output, number),
+        Asked::Compare => of_compare(output, number),
     }
 }
 
 // Why a line is not understood.
-pub fn why(output: Output, text: &mut [u8; SPACE], reason: u8) -> Output
-    ensures { Puts output text.old (lined (why_of reason)) result text.new }
+pub fn why(output: &mut Output, reason: Reason)
+    ensures { Puts output.old (lined (why_of reason)) output.new }
 {
     match reason {
-        UNKNOWN_WORD => output.line(text, b"unknown word"),
-        WORD_MISSING => output.line(text, b"a word is missing"),
-        NO_DECIMAL => output.line(text, b"not a decimal number"),
-        DOES_NOT_FIT => output.line(text, b"number does not fit"),
-        NO_HEX => output.line(text, b"not hexadecimal"),
-        ODD_HEX => output.line(text, b"odd number of hex digits"),
-        WRONG_HEX => output.line(text, b"wrong number of hex digits"),
-        WORD_TOO_MANY => output.line(text, b"a word too many"),
-        TOO_LONG => output.form(text, b"line of more than %d bytes\n", &[MAX_LINE]),
-        NO_PAIR => output.line(text, b"not a pair"),
-        TOO_MANY => output.line(text, b"too many"),
-        _ => no_words(output, text),
+        Reason::UnknownWord => output.line(b"unknown word"),
+        Reason::WordMissing => output.line(b"a word is missing"),
+        Reason::NoDecimal => output.line(b"not a decimal number"),
+        Reason::DoesNotFit => output.line(b"number does not fit"),
+        Reason::NoHex => output.line(b"not hexadecimal"),
+        Reason::OddHex => output.line(b"odd number of hex digits"),
+        Reason::WrongHex => output.line(b"wrong number of hex digits"),
+        Reason::WordTooMany => output.line(b"a word too many"),
+        Reason::TooLong => output.form(b"line of more than %d bytes\n", &[MAX_LINE]),
+        Reason::NoPair => output.line(b"not a pair"),
+        Reason::TooMany => output.line(b"too many"),
     }
 }

@@ -1,13 +1,15 @@
 -- What is left to put: of bytes one by one, and of a template.
 use Prim.Native.Nat.{ℕ, ◌%◌}
-use mathlib.Core.Path.{◌≡◌, sym, ◌∙◌, ap}
-use mathlib.Core.Bool.{Bool, true, cond}
+use mathlib.Core.Path.{◌≡◌, sym, ◌∙◌, ap, subst}
+use mathlib.Core.Bool.{Bool, true, false, cond}
 use mathlib.Core.List.{List, [], ◌∷◌, ◌++◌}
 use borrow.Author.Tests.{eq-eqb, ne_eqb}
 use lib.Dec.{eqb}
 use Rattle.laws.specs.Bools.{cond_true, cond_false}
 use Rattle.laws.specs.Lists.{collect}
-use Rattle.text_out.specs.Spelling.{hex_of, hex_pair_of, decimal_of, value_of, filled_from, filled}
+use Rattle.text_out.specs.Spelling.{hex_of, hex_pair_of, decimal_of, value_of, filled_from}
+use Rattle.text_out.specs.declared.Output.{Output}
+use Rattle.text_out.specs.Putting.{Owes}
 
 module _ (f : ℕ → List ℕ) {xs : List ℕ} where
   pub collect_on : {x : ℕ} {rest : List ℕ} → xs ≡ x ∷ rest → collect f xs ≡ f x ++ collect f rest
@@ -32,29 +34,34 @@ module _ {kind : ℕ} (v : ℕ) where
   unfolding value_of
   value_decimal h k = sym (cond_false _ _ (ne_eqb kind 98 h) ∙ cond_false _ _ (ne_eqb kind 119 k))
 
--- a template from a byte on: a byte as it is; a % with nothing behind it, with no value, with its letter and a value; nothing
-module _ (vs : List ℕ) {x : ℕ} {xs : List ℕ} where
-  module _ {rest : List ℕ} (e : xs ≡ x ∷ rest) where
-    begun : {b : Bool} → eqb x 37 ≡ b → filled xs vs ≡ cond b [] (x ∷ []) ++ filled_from b rest vs
-    unfolding filled_from
-    begun h = ap (λ (l : List ℕ). filled l vs) e ∙ ap (λ (b : Bool). cond b [] (x ∷ []) ++ filled_from b rest vs) h
+-- a template from a byte on, behind a % or not: nothing without a value, its letter and a value; a %; a byte as it is
+module _ {m : Bool} (vs : List ℕ) {x : ℕ} {xs rest : List ℕ} (e : xs ≡ x ∷ rest) where
+  pub fill_none : m ≡ true → vs ≡ [] → filled_from m xs vs ≡ []
+  unfolding filled_from
+  fill_none k n = λ i. filled_from (k i) (e i) (n i)
 
-    pub fill_byte : (x ≡ 37 → ⊥) → filled xs vs ≡ (x ∷ []) ++ filled rest vs
-    fill_byte h = begun (ne_eqb x 37 h)
+  pub fill_value : {v : ℕ} {more : List ℕ} → m ≡ true → vs ≡ v ∷ more → filled_from m xs vs ≡ value_of x v ++ filled_from false rest more
+  unfolding filled_from
+  fill_value k n = λ i. filled_from (k i) (e i) (n i)
 
-    pub fill_alone : x ≡ 37 → rest ≡ [] → filled xs vs ≡ []
-    unfolding filled_from
-    fill_alone h k = begun (eq-eqb x 37 h) ∙ ap (λ (l : List ℕ). filled_from true l vs) k
+  begun : {b : Bool} → m ≡ false → eqb x 37 ≡ b → filled_from m xs vs ≡ cond b [] (x ∷ []) ++ filled_from b rest vs
+  unfolding filled_from
+  begun k h = (λ i. filled_from (k i) (e i) vs) ∙ ap (λ (b : Bool). cond b [] (x ∷ []) ++ filled_from b rest vs) h
 
-  module _ {k : ℕ} {rest : List ℕ} (e : xs ≡ x ∷ k ∷ rest) (h : x ≡ 37) where
-    pub fill_none : vs ≡ [] → filled xs vs ≡ []
-    unfolding filled_from
-    fill_none n = begun e (eq-eqb x 37 h) ∙ ap (filled_from true (k ∷ rest)) n
+  pub fill_mark : m ≡ false → x ≡ 37 → filled_from m xs vs ≡ filled_from true rest vs
+  fill_mark k h = begun k (eq-eqb x 37 h)
 
-    pub fill_value : {v : ℕ} {more : List ℕ} → vs ≡ v ∷ more → filled xs vs ≡ value_of k v ++ filled rest more
-    unfolding filled_from
-    fill_value n = begun e (eq-eqb x 37 h) ∙ ap (filled_from true (k ∷ rest)) n
+  pub fill_byte : m ≡ false → (x ≡ 37 → ⊥) → filled_from m xs vs ≡ (x ∷ []) ++ filled_from false rest vs
+  fill_byte k h = begun k (ne_eqb x 37 h)
 
-pub fill_end : (vs : List ℕ) {xs : List ℕ} → xs ≡ [] → filled xs vs ≡ []
+pub fill_end : (m : Bool) (vs : List ℕ) {xs : List ℕ} → xs ≡ [] → filled_from m xs vs ≡ []
 unfolding filled_from
-fill_end vs e = ap (λ (l : List ℕ). filled l vs) e
+fill_end true vs e = ap (λ (l : List ℕ). filled_from true l vs) e
+fill_end false vs e = ap (λ (l : List ℕ). filled_from false l vs) e
+
+-- what is left to put, by other names
+pub owes_as : (rest : List ℕ) {o p q : Output} {whole vs us : List ℕ} {m n : Bool} → q ≡ p → n ≡ m → us ≡ vs → Owes o whole p (filled_from m rest vs)
+    → Owes o whole q (filled_from n rest us)
+owes_as rest {o} {p} {q} {whole} {vs} {us} {m} {n} s k e h =
+    subst (λ (r : Output). Owes o whole r (filled_from n rest us)) (sym s)
+    (subst (λ (l : List ℕ). Owes o whole p l) (λ i. filled_from (sym k i) rest (sym e i)) h)

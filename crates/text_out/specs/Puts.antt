@@ -1,5 +1,5 @@
 -- Standard output: what waits in the buffer, and how much, when bytes are put.
-use Rattle.std.specs.Prelude.{ℕ, suc, ◌<◌, ◌≡◌, Bool, true, false, cond, ◌&&◌, List, [], ◌∷◌, ltb, length, set}
+use Rattle.std.specs.Prelude.{ℕ, suc, ◌<◌, ◌≡◌, Bool, true, false, cond, ◌&&◌, List, [], ◌∷◌, ltb, length, set, replicate}
 use Rattle.std.specs.declared.rt.Stdout.{Stdout}
 use Rattle.text_out.specs.declared.Output.{Output}
 
@@ -28,12 +28,19 @@ fits w (b ∷ bs) = ltb w space && fits (suc w) bs
 
 -- nothing waits, and no write has failed
 abbrev pub empty : Stdout → Output
-empty stdout = record { waiting = 0; closed = false; stdout = stdout }
+empty stdout = record { stdout = stdout; text = replicate space 0; waiting = 0; closed = false }
+
+-- What writing does: nothing waits then. A failed write stays one, and more bytes than the buffer has are never written.
+pub record Drains (before : Output) (after : Output) : Type 0 where
+  pub buffer : after.text ≡ before.text
+  pub count : after.waiting ≡ 0
+  pub failed : before.closed ≡ true → after.closed ≡ true
+  pub overfull : space < before.waiting → after.closed ≡ true
 
 -- What putting bytes does. Whether a write fails depends on the system: that is open where a full buffer is written out. A failed
 -- write stays one, and more bytes than the buffer has are never written.
-pub record Puts (before : Output) (text : List ℕ) (bytes : List ℕ) (after : Output) (text' : List ℕ) : Type 0 where
-  pub buffer : text' ≡ laid text before.waiting bytes
+pub record Puts (before : Output) (bytes : List ℕ) (after : Output) : Type 0 where
+  pub buffer : after.text ≡ laid before.text before.waiting bytes
   pub count : after.waiting ≡ waits before.waiting bytes
   pub unwritten : fits before.waiting bytes ≡ true → after.closed ≡ before.closed
   pub failed : before.closed ≡ true → after.closed ≡ true

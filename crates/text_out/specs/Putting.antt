@@ -7,7 +7,7 @@ use borrow.Author.Tests.{lt-ltb, le-ltb}
 use Rattle.std.proofs.Math.ListN.{set}
 use Rattle.std.proofs.lemmas.List.Edits.{sets, sets-eq}
 use Rattle.laws.specs.Bools.{clash, cond_true, cond_false, and_left, and_right, and_true}
-use Rattle.text_out.specs.Puts.{space, spot, laid, waits, fits, Puts}
+use Rattle.text_out.specs.Puts.{space, spot, laid, waits, fits, Drains, Puts}
 use Rattle.text_out.specs.declared.Output.{Output}
 
 -- bytes behind bytes
@@ -54,44 +54,43 @@ waits_room w (b ∷ bs) h =
     ap (λ (n : ℕ). waits (suc n) bs) (spot_room w (lt-ltb w space (omega (arith, h)))) ∙ waits_room (suc w) bs (omega (arith, h)) ∙ omega arith
 
 -- nothing is put
-pub puts_nothing : (o : Output) (t : List ℕ) → Puts o t [] o t
+pub puts_nothing : (o : Output) → Puts o [] o
 unfolding laid waits
-puts_nothing o t = record { buffer = refl; count = refl; unwritten = λ h. refl; failed = λ h. h; overfull = λ h k. absurd (omega (arith, k)) }
+puts_nothing o = record { buffer = refl; count = refl; unwritten = λ h. refl; failed = λ h. h; overfull = λ h k. absurd (omega (arith, k)) }
 
--- a byte behind those that wait; a byte in front, where they were written out
-module _ {o p : Output} {t : List ℕ} {b : ℕ} where
-  pub puts_behind : o.waiting < space → p.waiting ≡ o.waiting + 1 → p.closed ≡ o.closed → Puts o t (b ∷ []) p (set t o.waiting b)
+-- a byte, where there is room for it, and where the buffer is written out first
+module _ {o q p : Output} {b : ℕ} (l : p.text ≡ set q.text q.waiting b) (n : p.waiting ≡ q.waiting + 1) (c : p.closed ≡ q.closed) where
+  pub puts_behind : q ≡ o → o.waiting < space → Puts o (b ∷ []) p
   unfolding laid waits
-  puts_behind h n c =
+  puts_behind s h =
       let e = spot_room o.waiting (lt-ltb o.waiting space h) in
       record {
-        buffer = ap (λ (w : ℕ). set t w b) (sym e);
-        count = omega (arith, n, e);
-        unwritten = λ f. c;
-        failed = λ f. c ∙ f;
+        buffer = l ∙ (λ i. set (s i).text (s i).waiting b) ∙ ap (λ (w : ℕ). set o.text w b) (sym e);
+        count = n ∙ (λ i. (s i).waiting + 1) ∙ omega (arith, e);
+        unwritten = λ f. c ∙ (λ i. (s i).closed);
+        failed = λ f. c ∙ (λ i. (s i).closed) ∙ f;
         overfull = λ l m. absurd (omega (arith, h, l));
       }
 
-  pub puts_in_front : space ≤ o.waiting → p.waiting ≡ 1 → (o.closed ≡ true → p.closed ≡ true) → (space < o.waiting → p.closed ≡ true)
-      → Puts o t (b ∷ []) p (set t 0 b)
+  pub puts_in_front : {r : Output} → q ≡ r → Drains o r → space ≤ o.waiting → Puts o (b ∷ []) p
   unfolding laid waits fits spot
-  puts_in_front h n c d =
+  puts_in_front {r} s d h =
       let full = le-ltb o.waiting space h in
       let e : spot o.waiting ≡ 0 = cond_false o.waiting 0 full in
       record {
-        buffer = ap (λ (w : ℕ). set t w b) (sym e);
-        count = omega (arith, n, e);
+        buffer = l ∙ (λ i. set (s i).text (s i).waiting b) ∙ (λ i. set (d.buffer i) (d.count i) b) ∙ ap (λ (w : ℕ). set o.text w b) (sym e);
+        count = n ∙ (λ i. (s i).waiting + 1) ∙ omega (arith, d.count, e);
         unwritten = λ f. clash (and_left (ltb o.waiting space) true f) full;
-        failed = c;
-        overfull = λ l m. d l;
+        failed = λ f. c ∙ (λ i. (s i).closed) ∙ d.failed f;
+        overfull = λ l m. c ∙ (λ i. (s i).closed) ∙ d.overfull l;
       }
 
 -- bytes and then others
-pub puts_append : {o p q : Output} {t u v : List ℕ} {xs ys : List ℕ} → Puts o t xs p u → Puts p u ys q v → Puts o t (xs ++ ys) q v
+pub puts_append : {o p q : Output} {xs ys : List ℕ} → Puts o xs p → Puts p ys q → Puts o (xs ++ ys) q
 unfolding waits
-puts_append {o} {p} {q} {t} {u} {v} {xs} {ys} h k =
+puts_append {o} {p} {q} {xs} {ys} h k =
     record {
-      buffer = k.buffer ∙ (λ i. laid (h.buffer i) (h.count i) ys) ∙ laid_append t o.waiting xs ys;
+      buffer = k.buffer ∙ (λ i. laid (h.buffer i) (h.count i) ys) ∙ laid_append o.text o.waiting xs ys;
       count = k.count ∙ ap (λ (w : ℕ). waits w ys) h.count ∙ waits_append o.waiting xs ys;
       unwritten = λ f.
           let both = fits_append o.waiting xs ys f in
@@ -106,20 +105,20 @@ puts_append {o} {p} {q} {t} {u} {v} {xs} {ys} h k =
     behind (x ∷ xs) e f l m = k.failed (f l (omega arith))
 
 -- the same bytes by another name
-pub puts_along : {o p : Output} {t u : List ℕ} {xs ys : List ℕ} → xs ≡ ys → Puts o t xs p u → Puts o t ys p u
-puts_along {o} {p} {t} {u} e h = subst (λ (l : List ℕ). Puts o t l p u) e h
+pub puts_along : {o p : Output} {xs ys : List ℕ} → xs ≡ ys → Puts o xs p → Puts o ys p
+puts_along {o} {p} e h = subst (λ (l : List ℕ). Puts o l p) e h
 
 -- A loop that puts the parts of a whole: those put, and the rest.
-pub record Owes (o : Output) (t : List ℕ) (whole : List ℕ) (p : Output) (u : List ℕ) (rest : List ℕ) : Type 0 where
+pub record Owes (o : Output) (whole : List ℕ) (p : Output) (rest : List ℕ) : Type 0 where
   pub done : List ℕ
-  pub puts : Puts o t done p u
+  pub puts : Puts o done p
   pub parts : done ++ rest ≡ whole
 
-pub owes_start : (o : Output) (t whole : List ℕ) → Owes o t whole o t whole
-owes_start o t whole = record { done = []; puts = puts_nothing o t; parts = refl }
+pub owes_start : (o : Output) (whole : List ℕ) → Owes o whole o whole
+owes_start o whole = record { done = []; puts = puts_nothing o; parts = refl }
 
-pub owes_on : {o p q : Output} {t u v : List ℕ} {whole xs rest : List ℕ} (part : List ℕ) → xs ≡ part ++ rest → Puts p u part q v → Owes o t whole p u xs
-    → Owes o t whole q v rest
+pub owes_on : {o p q : Output} {whole xs rest : List ℕ} (part : List ℕ) → xs ≡ part ++ rest → Puts p part q → Owes o whole p xs
+    → Owes o whole q rest
 owes_on {rest = rest} part e h k =
     record {
       done = k.done ++ part;
@@ -127,18 +126,18 @@ owes_on {rest = rest} part e h k =
       parts = append_assoc k.done part rest ∙ ap (λ (l : List ℕ). k.done ++ l) (sym e) ∙ k.parts;
     }
 
-pub owes_end : {o p : Output} {t u : List ℕ} {whole rest : List ℕ} → rest ≡ [] → Owes o t whole p u rest → Puts o t whole p u
+pub owes_end : {o p : Output} {whole rest : List ℕ} → rest ≡ [] → Owes o whole p rest → Puts o whole p
 owes_end e k = puts_along (sym (append-nil k.done) ∙ ap (λ (l : List ℕ). k.done ++ l) (sym e) ∙ k.parts) k.puts
 
 -- Where there is room for them, bytes wait behind those that waited, and whether a write failed is what it was.
-module _ {o p : Output} {t u bytes : List ℕ} (h : Puts o t bytes p u) (room : o.waiting + length bytes ≤ space) where
-  pub puts_behind_others : space ≤ length t → take p.waiting u ≡ take o.waiting t ++ bytes
+module _ {o p : Output} {bytes : List ℕ} (h : Puts o bytes p) (room : o.waiting + length bytes ≤ space) where
+  pub puts_behind_others : space ≤ length o.text → take p.waiting p.text ≡ take o.waiting o.text ++ bytes
   puts_behind_others l =
       let n = h.count ∙ waits_room o.waiting bytes room in
-      let front = length-take-le o.waiting t (omega (arith, room, l)) in
-      let all = length-append (take o.waiting t) bytes in
-      (λ i. take (n i) ((h.buffer ∙ laid_room t o.waiting bytes room ∙ sets-eq bytes t o.waiting (omega (arith, room, l))) i))
-      ∙ take_at (take o.waiting t ++ bytes) _ (o.waiting + length bytes) (omega (arith, front, all))
+      let front = length-take-le o.waiting o.text (omega (arith, room, l)) in
+      let all = length-append (take o.waiting o.text) bytes in
+      (λ i. take (n i) ((h.buffer ∙ laid_room o.text o.waiting bytes room ∙ sets-eq bytes o.text o.waiting (omega (arith, room, l))) i))
+      ∙ take_at (take o.waiting o.text ++ bytes) _ (o.waiting + length bytes) (omega (arith, front, all))
 
   pub puts_unwritten : p.closed ≡ o.closed
   puts_unwritten = h.unwritten (fits_room o.waiting bytes room)

@@ -2,10 +2,10 @@
 // system writes, so these are open: that what waits is what is written, and whether a write fails.
 #![tactic(auto)]
 
-ghost use Rattle.std.specs.Prelude.{◌≡◌, ◌≤◌, ◌<◌, length, true, false, [], ◌∷◌};
+ghost use Rattle.std.specs.Prelude.{◌≡◌, ◌≤◌, ◌<◌, length, false, [], ◌∷◌};
 ghost use Rattle.laws.specs.Lists.{collect};
 ghost use Rattle.text_words.specs.Text.{lf};
-ghost use Rattle.text_out.specs.Puts.{space, empty, Puts};
+ghost use Rattle.text_out.specs.Puts.{empty, Puts, Drains};
 ghost use Rattle.text_out.specs.Spelling.{lined, hex_of, hex_pair_of, width_of, decimal_of, value_of, filled};
 
 use std::io::Stdout;
@@ -14,27 +14,20 @@ use text_words::digits;
 // How many bytes wait at most.
 pub const SPACE: usize = 65536;
 
-const LF: u8 = 10;
-
-// How many bytes wait to be written, whether a write failed, and where it goes.
-#[derive(Clone, Copy)]
+// What waits to be written, at the start of its buffer, and where it goes; whether a write failed.
+#[derive(Drop)]
 pub struct Output {
+    pub stdout: Stdout,
+    pub text: [u8; SPACE],
     pub waiting: usize,
     pub closed: bool,
-    pub stdout: Stdout,
 }
 
-// Writes the first n bytes; false where a write fails or there are fewer.
-fn write_first(stdout: Stdout, text: &[u8], n: usize) -> bool
+// The first n bytes are written: not where there are fewer, or where a write fails.
+fn is_written(stdout: Stdout, text: &[u8], n: usize) -> bool
     ensures { length text.now < n → result ≡ false }
 {
-    if text.len() < n {
-        return false;
-    }
-    match stdout.write_all(&text[0..n]) {
-        Ok(()) => true,
-        Err(_) => false,
-    }
+    n <= text.len() && stdout.write_all(&text[..n]).is_ok()
 }
 
 impl Output {
@@ -43,168 +36,129 @@ impl Output {
         ensures { result ≡ empty stdout }
     {
         Output {
+            stdout,
+            text: [0; SPACE],
             waiting: 0,
             closed: false,
-            stdout,
         }
     }
 
-    // With nothing waiting: written, unless a write failed before. Whether this one fails is open where it can be made: that
+    // Nothing waits then: it is written, unless a write failed before. Whether this one fails is open where it can be made: that
     // depends on the system.
-    pub fn drained(self, text: &[u8; SPACE]) -> Output
-        ensures { (result.waiting ≡ 0) × (self.closed ≡ true → result.closed ≡ true) × (space < self.waiting → result.closed ≡ true) }
+    pub fn drain(&mut self)
+        ensures { Drains self.old self.new }
     {
-        let n = self.waiting;
-        if self.closed {
-            return Output {
-                waiting: 0,
-                closed: true,
-                stdout: self.stdout,
-            };
-        }
-        Output {
-            waiting: 0,
-            closed: !write_first(self.stdout, text, n),
-            stdout: self.stdout,
-        }
+        self.closed = self.closed || !is_written(self.stdout, &self.text, self.waiting);
+        self.waiting = 0;
     }
 
     // One byte more. Where it finds the buffer full, that is written out first, and whether the write fails is open.
-    pub fn byte(self, text: &mut [u8; SPACE], byte: u8) -> Output
-        ensures { Puts self text.old (byte ∷ []) result text.new }
+    pub fn byte(&mut self, byte: u8)
+        ensures { Puts self.old (byte ∷ []) self.new }
     {
-        let at = self.waiting;
-        if at < SPACE {
-            text[at] = byte;
-            return Output {
-                waiting: at + 1,
-                closed: self.closed,
-                stdout: self.stdout,
-            };
+        if SPACE <= self.waiting {
+            self.drain();
         }
-        let next = self.drained(text);
-        text[0] = byte;
-        Output {
-            waiting: 1,
-            closed: next.closed,
-            stdout: self.stdout,
-        }
+        self.text[self.waiting] = byte;
+        self.waiting += 1;
     }
 
     // Bytes as they are.
-    pub fn bytes(self, text: &mut [u8; SPACE], bytes: &[u8]) -> Output
-        ensures { Puts self text.old bytes.now result text.new }
+    pub fn bytes(&mut self, bytes: &[u8])
+        ensures { Puts self.old bytes.now self.new }
     {
-        let mut next = self;
-        let mut i = 0;
-        while i < bytes.len() {
-            next = next.byte(text, bytes[i]);
-            i += 1;
+        for byte in bytes {
+            self.byte(*byte);
         }
-        next
     }
 
     // The end of a line.
-    pub fn line_end(self, text: &mut [u8; SPACE]) -> Output
-        ensures { Puts self text.old (lf ∷ []) result text.new }
+    pub fn line_end(&mut self)
+        ensures { Puts self.old (lf ∷ []) self.new }
     {
-        self.byte(text, LF)
+        self.byte(b'\n');
     }
 
     // Bytes, and the end of a line.
-    pub fn line(self, text: &mut [u8; SPACE], bytes: &[u8]) -> Output
-        ensures { Puts self text.old (lined bytes.now) result text.new }
+    pub fn line(&mut self, bytes: &[u8])
+        ensures { Puts self.old (lined bytes.now) self.new }
     {
-        let next = self.bytes(text, bytes);
-        next.line_end(text)
+        self.bytes(bytes);
+        self.line_end();
     }
 
     // A number in decimal.
-    pub fn decimal(self, text: &mut [u8; SPACE], n: usize) -> Output
-        ensures { Puts self text.old (decimal_of n) result text.new }
+    pub fn decimal(&mut self, n: usize)
+        ensures { Puts self.old (decimal_of n) self.new }
     {
         let mut spelled = [0u8; 20];
         let k = io::decimal(n as u64, &mut spelled);
-        self.bytes(text, &spelled[..k])
+        self.bytes(&spelled[..k]);
     }
 
     // How many digits a number has in decimal.
     pub fn decimal_width(n: usize) -> usize
         ensures { (result ≡ width_of n) × (result ≤ 20) }
     {
-        let mut rest = n / 10;
-        let mut digits = 1;
-        while 0 < rest {
-            rest /= 10;
-            digits += 1;
-        }
-        digits
+        io::decimal(n as u64, &mut [0; 20])
     }
 
     // A byte as two hexadecimal digits.
-    pub fn hex(self, text: &mut [u8; SPACE], byte: u8) -> Output
-        ensures { Puts self text.old (hex_of byte) result text.new }
+    pub fn hex(&mut self, byte: u8)
+        ensures { Puts self.old (hex_of byte) self.new }
     {
-        let high = self.byte(text, digits::glyph(byte / 16));
-        high.byte(text, digits::glyph(byte % 16))
+        self.byte(digits::glyph(byte / 16));
+        self.byte(digits::glyph(byte % 16));
     }
 
     // Bytes in hexadecimal, with no blank between.
-    pub fn hex_bytes(self, text: &mut [u8; SPACE], bytes: &[u8]) -> Output
-        ensures { Puts self text.old (collect hex_of bytes.now) result text.new }
+    pub fn hex_bytes(&mut self, bytes: &[u8])
+        ensures { Puts self.old (collect hex_of bytes.now) self.new }
     {
-        let mut next = self;
-        let mut i = 0;
-        while i < bytes.len() {
-            next = next.hex(text, bytes[i]);
-            i += 1;
+        for byte in bytes {
+            self.hex(*byte);
         }
-        next
     }
 
     // An address or another two-byte number.
-    pub fn hex_pair(self, text: &mut [u8; SPACE], n: u16) -> Output
-        ensures { Puts self text.old (hex_pair_of n) result text.new }
+    pub fn hex_pair(&mut self, n: u16)
+        ensures { Puts self.old (hex_pair_of n) self.new }
     {
-        let high = self.hex(text, (n / 256) as u8);
-        high.hex(text, (n % 256) as u8)
+        let [high, low] = n.to_be_bytes();
+        self.hex(high);
+        self.hex(low);
     }
 
     // A value: two hexadecimal digits for b, four for w, decimal for anything else.
-    fn value(self, text: &mut [u8; SPACE], kind: u8, value: usize) -> Output
-        ensures { Puts self text.old (value_of kind value) result text.new }
+    fn value(&mut self, kind: u8, value: usize)
+        ensures { Puts self.old (value_of kind value) self.new }
     {
         match kind {
-            b'b' => self.hex(text, (value % 256) as u8),
-            b'w' => self.hex_pair(text, (value % 65536) as u16),
-            _ => self.decimal(text, value),
+            b'b' => self.hex((value % 256) as u8),
+            b'w' => self.hex_pair((value % 65536) as u16),
+            _ => self.decimal(value),
         }
     }
 
     // A template with the values in it, from the first on: %d stands for one in decimal, %b for two hexadecimal digits, %w for four.
-    pub fn form(self, text: &mut [u8; SPACE], template: &[u8], values: &[usize]) -> Output
-        ensures { Puts self text.old (filled template.now values.now) result text.new }
+    pub fn form(&mut self, template: &[u8], values: &[usize])
+        ensures { Puts self.old (filled template.now values.now) self.new }
     {
-        let mut next = self;
-        let mut used = 0;
-        let mut i = 0;
-        while i < template.len() {
-            let byte = template[i];
-            if byte == b'%' {
-                if template.len() - i < 2 {
-                    return next;
-                }
-                if values.len() <= used {
-                    return next;
-                }
-                next = next.value(text, template[i + 1], values[used]);
-                used += 1;
-                i += 2;
+        let mut unused = values;
+        let mut is_marked = false;
+        for byte in template {
+            if is_marked {
+                let [value, rest @ ..] = unused else {
+                    return;
+                };
+                self.value(*byte, *value);
+                unused = rest;
+                is_marked = false;
+            } else if *byte == b'%' {
+                is_marked = true;
             } else {
-                next = next.byte(text, byte);
-                i += 1;
+                self.byte(*byte);
             }
         }
-        next
     }
 }

@@ -1,25 +1,23 @@
 -- Bytes as pairs, one by one: those that are left.
-use Prim.Native.Nat.{ℕ, ◌+◌, ◌≤◌, ◌<◌}
+use Prim.Native.Nat.{ℕ, ◌<◌}
 use mathlib.Core.Path.{◌≡◌, refl, ap}
 use mathlib.Core.List.{List, [], ◌∷◌, ◌++◌}
-use native.Mathlib.Nat.{not-suc-le-zero, le_of_suc-le-suc}
 use native.Mathlib.Omega.{arith}
-use lib.ListN.{length, drop, get_or, length-drop}
-use Rattle.laws.specs.Runs.{drop_two}
+use lib.ListN.{length, get_or}
 use Rattle.text_records.specs.Fields.{pair_word, pair_words}
 
 -- the pair at hand, and those behind it
-pub pairs_on : (bytes : List ℕ) (at : ℕ) → at + 1 < length bytes
-    → pair_words (drop at bytes) ≡ pair_word (get_or bytes at 0) (get_or bytes (at + 1) 0) ++ pair_words (drop (at + 2) bytes)
+pub pairs_on : {bytes : List ℕ} (two rest : List ℕ) → bytes ≡ two ++ rest → length two ≡ 2
+    → pair_words bytes ≡ pair_word (get_or two 0 0) (get_or two 1 0) ++ pair_words rest
 unfolding pair_words
-pairs_on bytes at h = ap pair_words (drop_two bytes at 0 h)
+pairs_on [] rest e l = absurd (omega (arith, l))
+pairs_on (b ∷ []) rest e l = absurd (omega (arith, l))
+pairs_on (b ∷ n ∷ []) rest e l = ap pair_words e
+pairs_on (b ∷ n ∷ m ∷ more) rest e l = absurd (omega (arith, l))
 
 -- none is left
-pub pairs_end : (bytes : List ℕ) (at : ℕ) → length bytes ≤ at + 1 → pair_words (drop at bytes) ≡ []
+pub pairs_end : (rest : List ℕ) → length rest < 2 → pair_words rest ≡ []
 unfolding pair_words
-pairs_end bytes at h = go (drop at bytes) (omega (arith, h, length-drop at bytes))
-  where
-    go : (rest : List ℕ) → length rest ≤ 1 → pair_words rest ≡ []
-    go [] l = refl
-    go (b ∷ []) l = refl
-    go (b ∷ n ∷ rest) l = absurd (not-suc-le-zero (le_of_suc-le-suc l))
+pairs_end [] l = refl
+pairs_end (b ∷ []) l = refl
+pairs_end (b ∷ n ∷ rest) l = absurd (omega (arith, l))

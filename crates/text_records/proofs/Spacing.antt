@@ -1,20 +1,26 @@
 -- Bytes with blanks between, one by one: those that are left, and how many characters they have.
 use Prim.Native.Nat.{ℕ, ◌+◌, ◌≤◌, ◌<◌}
 use mathlib.Core.Path.{◌≡◌, refl, sym, ◌∙◌, ap}
-use mathlib.Core.Bool.{Bool, true, false, cond}
+use mathlib.Core.Bool.{Bool, true, false}
 use mathlib.Core.List.{List, [], ◌++◌}
 use native.Mathlib.Numerals.{add-one}
 use native.Mathlib.Omega.{arith}
+use mir.Val.{bool_byte}
+use Rattle.std.proofs.Common.{lit≤}
 use lib.ListN.{length, drop, get_or, length-append, drop_of_length-le}
 use Rattle.laws.specs.Runs.{drop_here}
 use Rattle.text_out.specs.Spelling.{hex_of}
 use Rattle.text_records.specs.Fields.{spaced_byte, spaced_from}
 
 -- two digits, and one more character where a blank stands
-byte_width : (blank : Bool) (b : ℕ) → length (spaced_byte blank b) ≡ cond blank 3 2
+byte_width : (blank : Bool) (b : ℕ) → length (spaced_byte blank b) ≡ 2 + bool_byte blank
 unfolding hex_of
 byte_width true b = refl
 byte_width false b = refl
+
+pub one_at_most : (blank : Bool) → bool_byte blank ≤ 1
+one_at_most true = lit≤ tt
+one_at_most false = lit≤ tt
 
 module _ (gap : ℕ → Bool) (bytes : List ℕ) (i : ℕ) where
   module _ {blank : Bool} (e : blank ≡ gap i) (h : i < length bytes) where
@@ -25,8 +31,8 @@ module _ (gap : ℕ → Bool) (bytes : List ℕ) (i : ℕ) where
         ap (spaced_from gap i) (drop_here bytes i 0 h)
         ∙ sym (λ t. spaced_byte (e t) (get_or bytes i 0) ++ spaced_from gap (add-one i t) (drop (i + 1) bytes))
 
-    pub width_on : (width : ℕ) {more whole : ℕ} → more ≡ cond blank 3 2 → width + length (spaced_from gap i (drop i bytes)) ≡ whole
-        → width + more + length (spaced_from gap (i + 1) (drop (i + 1) bytes)) ≡ whole
+    pub width_on : (width : ℕ) {more whole : ℕ} → more ≡ bool_byte blank → width + length (spaced_from gap i (drop i bytes)) ≡ whole
+        → width + (2 + more) + length (spaced_from gap (i + 1) (drop (i + 1) bytes)) ≡ whole
     width_on width m w =
         let rest = spaced_from gap (i + 1) (drop (i + 1) bytes) in
         omega (arith, m, w, ap length spaced_on, length-append (spaced_byte blank (get_or bytes i 0)) rest, byte_width blank (get_or bytes i 0))

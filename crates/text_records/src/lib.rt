@@ -1,13 +1,13 @@
 // Records and orders in hexadecimal, with a blank between their fields, and pairs as words.
 #![tactic(auto)]
 
-ghost use Rattle.std.specs.Prelude.{◌≡◌, cond, ◌-◌, ◌≤◌, ltb, length, get_or};
+ghost use Rattle.std.specs.Prelude.{◌≡◌, ◌-◌, ltb, length, get_or};
 ghost use Rattle.text_in.specs.Lines.{max_line};
 ghost use Rattle.text_out.specs.Puts.{Puts};
 ghost use Rattle.text_records.specs.Fields.{head_gap, answer_gap, event_gap, is_known, field_gap, order_gap, gap_of, spaced_byte, spaced_of, pair_word, pair_words};
 
 use text_in::MAX_LINE;
-use text_out::{Output, SPACE};
+use text_out::Output;
 use wire_events::{ADDRESS, ANSWER, COUNT};
 use wire_orders::{ASK, HEAD, INVALID, KIND, NEW, PASS, SET, SET_BLOCK, SET_NEW, WAIT_LONG};
 use wire_pairs::PAIR;
@@ -19,181 +19,133 @@ const BLOCK: usize = HEAD + SET_BLOCK;
 
 const NEW_NUMBER: usize = HEAD + SET_NEW;
 
+// Whose fields bytes have: a record's, which tells an event, or an order's.
+#[derive(Clone, Copy, Debug, PartialEq, Eq)]
+pub enum Layout {
+    Event,
+    Order,
+}
+
 // The third byte is the kind; 0 where there is none.
 fn kind_of(bytes: &[u8]) -> u8
     ensures { result ≡ get_or bytes.now 2 0 }
 {
-    if bytes.len() <= KIND {
-        return 0;
-    }
-    bytes[KIND]
+    bytes.get(KIND).copied().unwrap_or(0)
 }
 
 // A blank stands after mark, kind and pass.
 fn head_gap(n: usize) -> bool
     ensures { result ≡ head_gap n }
 {
-    if n == KIND {
-        return true;
-    }
-    if n == PASS {
-        return true;
-    }
-    n == HEAD
+    n == KIND || n == PASS || n == HEAD
 }
 
 // A blank stands after the address of an ANSWER, its count and each of its pairs.
 fn answer_gap(n: usize) -> bool
     ensures { result ≡ answer_gap n }
 {
-    if n == COUNT {
-        return true;
-    }
-    if n <= COUNT {
-        return false;
-    }
-    n % 2 == 1
+    n == COUNT || COUNT < n && n % 2 == 1
 }
 
 // A blank stands after byte n of an event, where more bytes follow.
 fn event_gap(kind: u8, n: usize) -> bool
     ensures { result ≡ event_gap kind n }
 {
-    if head_gap(n) {
-        return true;
-    }
-    if n == ADDRESS {
-        return true;
-    }
-    if kind != ANSWER {
-        return false;
-    }
-    answer_gap(n)
+    head_gap(n) || n == ADDRESS || kind == ANSWER && answer_gap(n)
 }
 
 // A kind that an order has.
 fn is_known(kind: u8) -> bool
     ensures { result ≡ is_known kind }
 {
-    if kind < ASK {
-        return false;
-    }
-    kind <= WAIT_LONG
+    (ASK..=WAIT_LONG).contains(&kind)
 }
 
 // A blank stands after the address of a SET, its block and its old number, and after each pair of NEW and INVALID.
 fn field_gap(kind: u8, n: usize) -> bool
     ensures { result ≡ field_gap kind n }
 {
-    if n < BLOCK {
-        return false;
-    }
-    if kind == SET {
-        return n <= NEW_NUMBER;
-    }
-    if kind == NEW {
-        return n % 2 == 0;
-    }
-    if kind == INVALID {
-        return n % 2 == 0;
-    }
-    false
+    BLOCK <= n
+        && match kind {
+            SET => n <= NEW_NUMBER,
+            NEW | INVALID => n % 2 == 0,
+            _ => false,
+        }
 }
 
 // A blank stands after byte n of an order, where more bytes follow.
 fn order_gap(kind: u8, n: usize) -> bool
     ensures { result ≡ order_gap kind n }
 {
-    if head_gap(n) {
-        return true;
-    }
     if n == BODY {
-        return is_known(kind);
+        is_known(kind)
+    } else {
+        head_gap(n) || field_gap(kind, n)
     }
-    field_gap(kind, n)
 }
 
-// A blank stands there in an order, or in an event.
-fn gap(order: bool, kind: u8, n: usize) -> bool
-    ensures { result ≡ gap_of order kind n }
-{
-    if order {
-        return order_gap(kind, n);
+impl Layout {
+    // A blank stands after byte n, where more bytes follow.
+    fn has_gap(self, kind: u8, n: usize) -> bool
+        ensures { result ≡ gap_of self kind n }
+    {
+        match self {
+            Layout::Event => event_gap(kind, n),
+            Layout::Order => order_gap(kind, n),
+        }
     }
-    event_gap(kind, n)
 }
 
 // A byte as two digits, and a blank before them where one stands.
-fn spaced_byte(output: Output, text: &mut [u8; SPACE], blank: bool, byte: u8) -> Output
-    ensures { Puts output text.old (spaced_byte blank byte) result text.new }
+fn spaced_byte(output: &mut Output, blank: bool, byte: u8)
+    ensures { Puts output.old (spaced_byte blank byte) output.new }
 {
     if blank {
-        let next = output.byte(text, b' ');
-        return next.hex(text, byte);
+        output.byte(b' ');
     }
-    output.hex(text, byte)
+    output.hex(byte);
 }
 
-// The bytes of an event, or of an order.
-pub fn spaced(output: Output, text: &mut [u8; SPACE], bytes: &[u8], order: bool) -> Output
-    ensures { Puts output text.old (spaced_of order bytes.now) result text.new }
+// Bytes with a blank between their fields.
+pub fn spaced(output: &mut Output, layout: Layout, bytes: &[u8])
+    ensures { Puts output.old (spaced_of layout bytes.now) output.new }
 {
     let kind = kind_of(bytes);
-    let mut next = output;
-    let mut i = 0;
-    while i < bytes.len() {
-        next = spaced_byte(next, text, gap(order, kind, i), bytes[i]);
-        i += 1;
+    for (i, byte) in bytes.iter().enumerate() {
+        spaced_byte(output, layout.has_gap(kind, i), *byte);
     }
-    next
 }
 
-// How many characters a byte has, with the blank before it.
-fn width_of(blank: bool) -> usize
-    ensures { (result ≡ cond blank 3 2) × (result ≤ 3) }
-{
-    if blank {
-        return 3;
-    }
-    2
-}
-
-// With a mark and a blank in front, the bytes of an event, or of an order, are longer than a line.
-pub fn too_wide(bytes: &[u8], order: bool) -> bool
-    ensures { result ≡ ltb (max_line - 2) (length (spaced_of order bytes.now)) }
+// With a mark and a blank in front, the bytes with a blank between their fields are longer than a line.
+pub fn too_wide(layout: Layout, bytes: &[u8]) -> bool
+    ensures { result ≡ ltb (max_line - 2) (length (spaced_of layout bytes.now)) }
 {
     let kind = kind_of(bytes);
     let mut width = 0;
-    let mut i = 0;
-    while i < bytes.len() {
+    for i in 0..bytes.len() {
         if MAX_LINE - 2 < width {
             return true;
         }
-        width += width_of(gap(order, kind, i));
-        i += 1;
+        width += 2 + usize::from(layout.has_gap(kind, i));
     }
     MAX_LINE - 2 < width
 }
 
 // A pair behind a blank, as 22.01.
-pub fn pair(output: Output, text: &mut [u8; SPACE], block: u8, number: u8) -> Output
-    ensures { Puts output text.old (pair_word block number) result text.new }
+pub fn pair(output: &mut Output, block: u8, number: u8)
+    ensures { Puts output.old (pair_word block number) output.new }
 {
-    let blank = output.byte(text, b' ');
-    let left = blank.hex(text, block);
-    let dot = left.byte(text, b'.');
-    dot.hex(text, number)
+    output.byte(b' ');
+    output.hex(block);
+    output.byte(b'.');
+    output.hex(number);
 }
 
 // The pairs that the bytes are, each behind a blank.
-pub fn pairs(output: Output, text: &mut [u8; SPACE], bytes: &[u8]) -> Output
-    ensures { Puts output text.old (pair_words bytes.now) result text.new }
+pub fn pairs(output: &mut Output, bytes: &[u8])
+    ensures { Puts output.old (pair_words bytes.now) output.new }
 {
-    let mut next = output;
-    let mut at = 0;
-    while at + 1 < bytes.len() {
-        next = pair(next, text, bytes[at], bytes[at + 1]);
-        at += PAIR;
+    for two in bytes.chunks_exact(PAIR) {
+        pair(output, two[0], two[1]);
     }
-    next
 }

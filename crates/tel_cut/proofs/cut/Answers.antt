@@ -1,23 +1,10 @@
 -- `cut` refuses 10 and 11, and leaves the rest to the two kinds of message.
-use mathlib.Core.Path.{sym, ◌∙◌}
-use Rattle.tel_head.proofs.Legal.{legal, short}
-use Rattle.tel_cut.proofs.Cutting.{at_10, at_11, refused}
+use Rattle.std.proofs.lemmas.Result.{err_from_is_err_and}
+use Rattle.tel_cut.proofs.Cutting.{forbidden}
 use Rattle.tel_cut.proofs.cut.Goals as goal
 
-pub returns-then-illegal : goal.returns-then-illegal
-returns-then-illegal c =
+pub returns-in_err-allowed : goal.returns-in_err-allowed
+returns-in_err-allowed c =
     let a = c.args in
-    refused a.buffer.now (at_10 a.l a.msg_id a.payload.now a.number _ (sym c.illegal.ensures ∙ c.if-illegal.true))
-
-pub returns-then-too_long : goal.returns-then-too_long
-returns-then-too_long c =
-    let a = c.args in
-    refused a.buffer.now (at_11 a.l a.msg_id a.payload.now a.number _ (legal _ c.illegal.ensures c.if-illegal.false) (sym c.too_long.ensures ∙ c.if-too_long.true))
-
-pub cut_part-requires : goal.cut_part-requires
-cut_part-requires c =
-    (legal _ c.illegal.ensures c.if-illegal.false, c.if-l-n.true, short _ c.too_long.ensures c.if-too_long.false)
-
-pub cut_single-requires : goal.cut_single-requires
-cut_single-requires c =
-    (legal _ c.illegal.ensures c.if-illegal.false, c.if-l-n.false)
+    let p = err_from_is_err_and c.from_residual.result c.from_residual.ensures.1 in
+    rw (p.1, p.2) (forbidden a.l a.msg_id a.payload.now a.buffer.now a.number _ _ c.in_err-allowed.ensures)

@@ -29,4 +29,4 @@ returns c =
     let p = a.payload.now in
     written a.buffer.now _ _ _ (single_cut a.l a.msg_id p c.requires.0 c.requires.1 a.number _ c.if-number-ne1.false c.if-buffer-n.false)
     (sym (telegram_length a.msg_id 0 p))
-    (stored_single a.msg_id p a.buffer.now _ _ c.write_head.ensures c.store.ensures)
+    (stored_single a.msg_id p a.buffer.now _ _ c.number.ensures.0 c.write_head.ensures c.store.ensures)

@@ -1,5 +1,5 @@
 -- The message comes back: at every turn the telegrams that are left, joined from here on, give the whole message.
-use Prim.Native.Nat.{◌-◌, ◌≤◌}
+use Prim.Native.Nat.{◌-◌}
 use mathlib.Core.Path.{◌≡◌}
 use lib.ListN.{length}
 use Rattle.tel_join_state.specs.Answers.{joining_of}
@@ -8,7 +8,4 @@ use Rattle.tel_round_trip.proofs.cut_and_join.Given as goal
 
 abbrev pub invariant-loop-number : goal.invariant-loop-number
 invariant-loop-number l =
-    (1 ≤ l.number) × (l.number ≤ l.count) × (length l.buffer ≡ length l.initial.buffer) × Owed l.l l.msg_id l.payload l.initial.buffer l.number (l.count - l.number) (joining_of l.state) l.buffer
-
-abbrev pub decreases-loop-number : goal.decreases-loop-number
-decreases-loop-number l = l.count - l.number
+    (length l.buffer ≡ length l.initial.buffer) × Owed l.l l.msg_id l.payload l.initial.buffer l.number (l.count - l.number) (joining_of l.state) l.buffer

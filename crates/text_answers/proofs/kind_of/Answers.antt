@@ -1,28 +1,23 @@
 -- The first byte tells.
-use Rattle.laws.specs.Runs.{drop_here}
-use Rattle.text_answers.proofs.Parts.{kind_empty, kind_remark, kind_answered, kind_other, kind_refused, kind_offer}
 use native.Mathlib.Omega.{arith}
+use Rattle.laws.specs.Runs.{drop_here}
+use Rattle.text_answers.proofs.Parts.{kind_empty, kind_remark, kind_answered, kind_other, kind_offer}
 use Rattle.text_answers.proofs.kind_of.Goals as goal
 
-pub returns-then-line-eq0 : goal.returns-then-line-eq0
-returns-then-line-eq0 c = kind_empty _ _ c.if-line-eq0.true
+pub returns-in_default : goal.returns-in_default
+returns-in_default c = kind_empty _ _ (omega arith)
 
-pub returns-then-first-eq35 : goal.returns-then-first-eq35
-returns-then-first-eq35 c = kind_remark _ (drop_here c.args.line.now 0 0 (omega arith)) c.if-first-eq35.true
+pub returns-in-35 : goal.returns-in-35
+returns-in-35 c = kind_remark _ (drop_here c.args.line.now 0 0 c.in-len1-up.len_at_least) c.in-35.is
 
-pub returns-then-first-eq61 : goal.returns-then-first-eq61
-returns-then-first-eq61 c =
-    kind_answered _ (drop_here c.args.line.now 0 0 (omega arith)) c.if-first-eq35.false c.if-first-eq61.true
+pub returns-in-61 : goal.returns-in-61
+returns-in-61 c =
+    kind_answered _ (drop_here c.args.line.now 0 0 c.in-len1-up.len_at_least) (λ h. omega arith) c.in-61.is
 
-pub returns-then-first-other : goal.returns-then-first-other
-returns-then-first-other c =
-    kind_other _ (drop_here c.args.line.now 0 0 (omega arith)) c.if-first-eq35.false c.if-first-other.true
+pub returns-in_default-first : goal.returns-in_default-first
+returns-in_default-first c =
+    kind_other _ (drop_here c.args.line.now 0 0 c.in-len1-up.len_at_least) (λ h. omega arith) c.if-byte-other.true
 
-pub returns-then-first-eq33 : goal.returns-then-first-eq33
-returns-then-first-eq33 c =
-    kind_refused _ (drop_here c.args.line.now 0 0 (omega arith)) c.if-first-eq35.false c.if-first-eq33.true
-
-pub returns : goal.returns
-returns c =
-    kind_offer _ (drop_here c.args.line.now 0 0 (omega arith)) c.if-first-eq35.false
-    c.if-first-eq61.false c.if-first-other.false c.if-first-eq33.false
+pub returns-in_default-2 : goal.returns-in_default-2
+returns-in_default-2 c =
+    kind_offer _ (drop_here c.args.line.now 0 0 c.in-len1-up.len_at_least) (λ h. omega arith) (λ h. grind arith) c.if-byte-other.false

@@ -4,4 +4,4 @@ use Rattle.text_answers.proofs.Parts.{refusal_is}
 use Rattle.text_answers.proofs.refusal.Goals as goal
 
 pub returns : goal.returns
-returns c = puts_along (refusal_is _ _) (puts_append c.form-next.ensures c.meaning.ensures)
+returns c = puts_along (refusal_is _ c.from.ensures) (puts_append c.form.ensures c.meaning.ensures)

@@ -9,6 +9,6 @@ pub returns-then-line : goal.returns-then-line
 unfolding told_of
 returns-then-line c = sym (cond_true _ _ (lt-ltb _ _ c.if-line.true))
 
-pub returns : goal.returns
+pub returns-else-line : goal.returns-else-line
 unfolding told_of
-returns c = sym (cond_false _ _ (le-ltb _ _ c.if-line.false))
+returns-else-line c = sym (cond_false _ _ (le-ltb _ _ c.if-line.false))

@@ -6,5 +6,4 @@ use Rattle.text_records.proofs.pair.Goals as goal
 
 pub returns : goal.returns
 unfolding pair_word hex_of
-returns c =
-    puts_append c.byte-blank.ensures (puts_append c.hex-left.ensures (puts_append c.byte-dot.ensures c.hex.ensures))
+returns c = puts_append c.byte.ensures (puts_append c.hex.ensures (puts_append c.byte-2.ensures c.hex-2.ensures))

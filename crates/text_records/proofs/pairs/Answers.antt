@@ -1,20 +1,29 @@
--- The pairs from `at` on are left to put.
-use Prim.Native.Nat.{◌+◌}
+-- The pairs of the bytes that the chunks have left are left to put.
+use mathlib.Core.Path.{sym, ◌∙◌, subst}
+use mathlib.Core.List.{List}
+use Prim.Native.Nat.{ℕ}
 use native.Mathlib.Omega.{arith}
 use lib.ListN.{get_or}
-use Rattle.text_out.specs.Putting.{owes_start, owes_on, owes_end}
-use Rattle.text_records.specs.Fields.{pair_word}
+use Rattle.text_out.specs.Putting.{Owes, owes_start, owes_on, owes_end}
+use Rattle.text_records.specs.Fields.{pair_word, pair_words}
 use Rattle.text_records.proofs.PairWords.{pairs_on, pairs_end}
 use Rattle.text_records.proofs.pairs.Goals as goal
 
-pub loop-at-init : goal.loop-at-init
-loop-at-init c = (omega arith, owes_start _ _ _)
+pub loop-two-init : goal.loop-two-init
+loop-two-init c =
+    let made = c.chunks_exact-two-items.ensures in
+    let same = c.into_iter-two-iterator.ensures.into_iter_gives in
+    let all = (λ t. (same t).rest.now) ∙ made.rest in
+    ((λ t. (same t).size) ∙ made.size, subst (λ (l : List ℕ). Owes c.args.output.now (pair_words c.args.bytes.now) c.args.output.now (pair_words l)) (sym all) (owes_start _ _))
 
-pub loop-at-preserved : goal.loop-at-preserved
-loop-at-preserved c =
-    let bytes = c.args.bytes.now in
-    let at = c.loop-at.at in
-    (omega arith, owes_on (pair_word (get_or bytes at 0) (get_or bytes (at + 1) 0)) (pairs_on bytes at (omega arith)) c.pair-next.ensures c.loop-at.invariant.1)
+pub loop-two-preserved : goal.loop-two-preserved
+loop-two-preserved c =
+    let step = c.in-Some.ensures.steps in
+    let two = c.in-Some.two.now in
+    let size = c.loop-two.invariant.0 in
+    (step.0 ∙ size, owes_on (pair_word (get_or two 0 0) (get_or two 1 0)) (pairs_on two _ step.1.0 (step.1.1 ∙ size)) c.pair.ensures c.loop-two.invariant.1)
 
 pub returns : goal.returns
-returns c = owes_end (pairs_end _ _ c.loop-at-test.false) c.loop-at.invariant.1
+returns c =
+    let step = c.in-None.ensures.steps in
+    owes_end (pairs_end _ (omega (arith, step.1.0, c.loop-two.invariant.0))) c.loop-two.invariant.1

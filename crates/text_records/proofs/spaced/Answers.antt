@@ -9,14 +9,14 @@ use Rattle.text_records.proofs.spaced.Goals as goal
 
 pub loop-i-init : goal.loop-i-init
 unfolding spaced_of
-loop-i-init c = owes_start _ _ _
+loop-i-init c = owes_start _ _
 
 pub loop-i-preserved : goal.loop-i-preserved
 loop-i-preserved c =
     let args = c.args in
     let i = c.loop-i.i in
-    let blank = c.gap.ensures ∙ ap (λ (k : ℕ). gap_of args.order k i) c.kind_of-kind.ensures in
-    owes_on (spaced_byte c.gap.result (get_or args.bytes.now i 0)) (spaced_on _ _ _ blank c.loop-i-test.true) c.spaced_byte-next.ensures c.loop-i.invariant
+    let blank = c.has_gap.ensures ∙ ap (λ (k : ℕ). gap_of args.layout k i) c.kind_of-kind.ensures in
+    owes_on (spaced_byte c.has_gap.result (get_or args.bytes.now i 0)) (spaced_on _ _ _ blank c.loop-i-test.true) c.spaced_byte.ensures c.loop-i.invariant
 
 pub returns : goal.returns
 returns c = owes_end (spaced_end _ _ _ c.loop-i-test.false) c.loop-i.invariant

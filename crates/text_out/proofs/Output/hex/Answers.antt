@@ -6,5 +6,4 @@ use Rattle.text_out.proofs.Output.hex.Goals as goal
 
 pub returns : goal.returns
 unfolding hex_of
-returns c =
-    puts_along (λ t. c.glyph.ensures t ∷ c.glyph-2.ensures t ∷ []) (puts_append c.byte-high.ensures c.byte.ensures)
+returns c = puts_along (λ t. c.glyph.ensures t ∷ c.glyph-2.ensures t ∷ []) (puts_append c.byte.ensures c.byte-2.ensures)

@@ -1,4 +1,5 @@
 -- The value by its letter.
+use native.Mathlib.Omega.{arith}
 use Rattle.text_out.specs.Putting.{puts_along}
 use Rattle.text_out.proofs.Filling.{value_byte, value_word, value_decimal}
 use Rattle.text_out.proofs.Output.value.Goals as goal
@@ -10,4 +11,4 @@ pub returns-in-119 : goal.returns-in-119
 returns-in-119 c = puts_along (value_word _ c.in-119.is) c.hex_pair.ensures
 
 pub returns-in_default : goal.returns-in_default
-returns-in_default c = puts_along (value_decimal _ c.in_default.in_default-own.rest.0.1 c.in_default.in_default-own.rest.1) c.decimal.ensures
+returns-in_default c = puts_along (value_decimal _ (λ h. omega arith) (λ h. omega arith)) c.decimal.ensures

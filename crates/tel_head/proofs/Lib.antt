@@ -1,3 +1,0 @@
--- Laws that several functions' proofs use.
-pub mod Legal
-pub mod Words

@@ -1,6 +1,6 @@
 // The commands of a ring script.
 use super::lists::Which;
-use text_arguments::{Argument, UNDERSTOOD, UNKNOWN_WORD};
+use text_arguments::{Arguments, Reason};
 use text_words::words;
 
 // The longest record that a line can hold, and the most order room, which is lent at the start.
@@ -11,10 +11,12 @@ pub const MAX_ROOM: usize = 8192;
 // The most room that differences are written to.
 pub const MAX_DIFFERENCE_ROOM: usize = 20000;
 
+// How many hexadecimal digits a block or a number has.
+const BYTE_DIGITS: usize = 2;
+
 // A command with its arguments; the bytes of a record or of pairs stand in a buffer beside it.
 #[derive(Clone, Copy)]
 pub enum Command {
-    NotUnderstood(u8),
     Fresh(usize),
     Room(usize),
     Record(usize),
@@ -36,131 +38,90 @@ pub enum Command {
     Compare(usize),
 }
 
-// Where the last argument ends the line.
-fn bare(line: &[u8], at: usize, command: Command) -> Command {
-    let end = Argument::from(at).end(line);
-    if end.reason != UNDERSTOOD {
-        return Command::NotUnderstood(end.reason);
-    }
-    command
+// A command that takes no argument more.
+fn bare(arguments: Arguments, command: Command) -> Result<Command, Reason> {
+    arguments.end()?;
+    Ok(command)
 }
 
-fn fresh(line: &[u8], at: usize) -> Command {
-    let l = Argument::from(at).number(line);
-    let end = l.end(line);
-    if end.reason != UNDERSTOOD {
-        return Command::NotUnderstood(end.reason);
-    }
-    Command::Fresh(l.value)
+fn fresh(mut arguments: Arguments) -> Result<Command, Reason> {
+    let l = arguments.number()?;
+    arguments.end()?;
+    Ok(Command::Fresh(l))
 }
 
-fn room(line: &[u8], at: usize) -> Command {
-    let n = Argument::from(at).decimal(line, MAX_ROOM as u32);
-    let end = n.end(line);
-    if end.reason != UNDERSTOOD {
-        return Command::NotUnderstood(end.reason);
-    }
-    Command::Room(n.value)
+fn room(mut arguments: Arguments) -> Result<Command, Reason> {
+    let n = arguments.decimal(MAX_ROOM as u32)?;
+    arguments.end()?;
+    Ok(Command::Room(n))
 }
 
-fn compare(line: &[u8], at: usize) -> Command {
-    let n = Argument::from(at).decimal(line, MAX_DIFFERENCE_ROOM as u32);
-    let end = n.end(line);
-    if end.reason != UNDERSTOOD {
-        return Command::NotUnderstood(end.reason);
-    }
-    Command::Compare(n.value)
+fn compare(mut arguments: Arguments) -> Result<Command, Reason> {
+    let n = arguments.decimal(MAX_DIFFERENCE_ROOM as u32)?;
+    arguments.end()?;
+    Ok(Command::Compare(n))
 }
 
 // A row for a list, and its pairs in `bytes`.
-fn row(line: &[u8], at: usize, which: Which, bytes: &mut [u8]) -> Command {
-    let read = text_lists::row(line, at, bytes);
-    if read.reason != UNDERSTOOD {
-        return Command::NotUnderstood(read.reason);
-    }
-    Command::Row {
+fn row(arguments: Arguments, which: Which, bytes: &mut [u8]) -> Result<Command, Reason> {
+    let row = text_lists::row(arguments, bytes)?;
+    Ok(Command::Row {
         which,
-        position: read.position,
-        address: read.address,
-        pairs: read.pairs,
-    }
+        position: row.position,
+        address: row.address,
+        pairs: row.pairs,
+    })
 }
 
 // What a list is to be: the picture's rows, none, or with one row more.
-fn list(line: &[u8], at: usize, which: Which, bytes: &mut [u8]) -> Command {
+fn list(line: &[u8], at: usize, which: Which, bytes: &mut [u8]) -> Result<Command, Reason> {
     let start = words::word_start(line, at);
     if line.len() <= start {
-        return Command::TakeRows(which);
+        return Ok(Command::TakeRows(which));
     }
     let end = words::word_end(line, start);
-    if words::same(&line[start..end], b"none") {
-        return bare(line, end, Command::NoRows(which));
-    }
-    row(line, at, which, bytes)
-}
-
-fn look_up(line: &[u8], at: usize) -> Command {
-    let block = Argument::from(at).hex(line, 2);
-    let number = block.hex(line, 2);
-    let end = number.end(line);
-    if end.reason != UNDERSTOOD {
-        return Command::NotUnderstood(end.reason);
-    }
-    Command::LookUp {
-        block: (block.value % 256) as u8,
-        number: (number.value % 256) as u8,
+    match &line[start..end] {
+        b"none" => bare(Arguments::from(line, end), Command::NoRows(which)),
+        _ => row(Arguments::from(line, at), which, bytes),
     }
 }
 
-fn offered(line: &[u8], at: usize, record: &mut [u8]) -> Command {
-    let bytes = Argument::from(at).bytes(line, record);
-    if bytes.reason != UNDERSTOOD {
-        return Command::NotUnderstood(bytes.reason);
-    }
-    Command::Record(bytes.value)
+fn look_up(mut arguments: Arguments) -> Result<Command, Reason> {
+    let block = arguments.hex(BYTE_DIGITS)?;
+    let number = arguments.hex(BYTE_DIGITS)?;
+    arguments.end()?;
+    Ok(Command::LookUp {
+        block: block as u8,
+        number: number as u8,
+    })
 }
 
-// The command of a first word that ends at `at`; a row's pairs in `bytes`.
-fn named(word: &[u8], line: &[u8], at: usize, bytes: &mut [u8]) -> Command {
-    if words::same(word, b"state") {
-        return bare(line, at, Command::State);
-    }
-    if words::same(word, b"listing") {
-        return bare(line, at, Command::Listing);
-    }
-    if words::same(word, b"rows") {
-        return bare(line, at, Command::Rows);
-    }
-    if words::same(word, b"lookup") {
-        return look_up(line, at);
-    }
-    if words::same(word, b"fresh") {
-        return fresh(line, at);
-    }
-    if words::same(word, b"room") {
-        return room(line, at);
-    }
-    if words::same(word, b"first") {
-        return list(line, at, Which::First, bytes);
-    }
-    if words::same(word, b"second") {
-        return list(line, at, Which::Second, bytes);
-    }
-    if words::same(word, b"compare") {
-        return compare(line, at);
-    }
-    Command::NotUnderstood(UNKNOWN_WORD)
+fn offered(mut arguments: Arguments, record: &mut [u8]) -> Result<Command, Reason> {
+    let n = arguments.bytes(record)?;
+    Ok(Command::Record(n))
 }
 
-// The command of a line, and the bytes of a record or of pairs in `bytes`.
-pub(crate) fn parse(line: &[u8], bytes: &mut [u8]) -> Command {
+// The command of a line, and the bytes of a record or of pairs in `bytes`; why there is none.
+pub(crate) fn parse(line: &[u8], bytes: &mut [u8]) -> Result<Command, Reason> {
     let start = words::word_start(line, 0);
     if line.len() <= start {
-        return Command::NotUnderstood(UNKNOWN_WORD);
+        return Err(Reason::UnknownWord);
     }
     if line[start] == b'>' {
-        return offered(line, start + 1, bytes);
+        return offered(Arguments::from(line, start + 1), bytes);
     }
     let end = words::word_end(line, start + 1);
-    named(&line[start..end], line, end, bytes)
+    let arguments = Arguments::from(line, end);
+    match &line[start..end] {
+        b"state" => bare(arguments, Command::State),
+        b"listing" => bare(arguments, Command::Listing),
+        b"rows" => bare(arguments, Command::Rows),
+        b"lookup" => look_up(arguments),
+        b"fresh" => fresh(arguments),
+        b"room" => room(arguments),
+        b"first" => list(line, end, Which::First, bytes),
+        b"second" => list(line, end, Which::Second, bytes),
+        b"compare" => compare(arguments),
+        _ => Err(Reason::UnknownWord),
+    }
 }

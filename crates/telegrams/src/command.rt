@@ -1,6 +1,6 @@
 // The commands of a telegram script.
 use sizes::MAX_PAYLOAD;
-use text_arguments::{Argument, UNDERSTOOD, UNKNOWN_WORD};
+use text_arguments::{Arguments, Reason};
 use text_words::words;
 
 // The sizes of the buffers: a payload, which may be longer than the longest message, and the bytes of a telegram that a line can hold.
@@ -12,9 +12,8 @@ pub const MAX_TELEGRAM: usize = 8192;
 const MSG_ID_DIGITS: usize = 8;
 
 // A command with its arguments; a payload's and a telegram's bytes stand in buffers beside it.
-#[derive(Clone, Copy)]
+#[derive(Clone, Copy, PartialEq, Eq, Debug)]
 pub enum Command {
-    NotUnderstood(u8),
     Payload(usize),
     Fill {
         n: usize,
@@ -39,116 +38,76 @@ pub enum Command {
     },
 }
 
-fn payload(line: &[u8], at: usize, bytes: &mut [u8]) -> Command {
-    let read = Argument::from(at).bytes(line, bytes);
-    if read.reason != UNDERSTOOD {
-        return Command::NotUnderstood(read.reason);
-    }
-    Command::Payload(read.value)
+fn payload(mut arguments: Arguments, bytes: &mut [u8]) -> Result<Command, Reason> {
+    let n = arguments.bytes(bytes)?;
+    Ok(Command::Payload(n))
 }
 
-fn fill(line: &[u8], at: usize) -> Command {
-    let n = Argument::from(at).decimal(line, BENCH_PAYLOAD as u32);
-    let seed = n.number(line);
-    let end = seed.end(line);
-    if end.reason != UNDERSTOOD {
-        return Command::NotUnderstood(end.reason);
-    }
-    Command::Fill {
-        n: n.value,
-        seed: seed.value,
-    }
+fn fill(mut arguments: Arguments) -> Result<Command, Reason> {
+    let n = arguments.decimal(BENCH_PAYLOAD as u32)?;
+    let seed = arguments.number()?;
+    arguments.end()?;
+    Ok(Command::Fill { n, seed })
 }
 
-fn count(line: &[u8], at: usize) -> Command {
-    let l = Argument::from(at).number(line);
-    let end = l.end(line);
-    if end.reason != UNDERSTOOD {
-        return Command::NotUnderstood(end.reason);
-    }
-    Command::Count(l.value)
+fn count(mut arguments: Arguments) -> Result<Command, Reason> {
+    let l = arguments.number()?;
+    arguments.end()?;
+    Ok(Command::Count(l))
 }
 
-fn cut(line: &[u8], at: usize) -> Command {
-    let l = Argument::from(at).number(line);
-    let msg_id = l.hex(line, MSG_ID_DIGITS);
-    let number = msg_id.number(line);
-    let room = number.decimal(line, BENCH_PAYLOAD as u32);
-    let end = room.end(line);
-    if end.reason != UNDERSTOOD {
-        return Command::NotUnderstood(end.reason);
-    }
-    Command::Cut {
-        l: l.value,
-        msg_id: (msg_id.value % 4294967296) as u32,
-        number: number.value,
-        room: room.value,
-    }
+fn cut(mut arguments: Arguments) -> Result<Command, Reason> {
+    let l = arguments.number()?;
+    let msg_id = arguments.hex(MSG_ID_DIGITS)?;
+    let number = arguments.number()?;
+    let room = arguments.decimal(BENCH_PAYLOAD as u32)?;
+    arguments.end()?;
+    Ok(Command::Cut {
+        l,
+        msg_id: msg_id as u32,
+        number,
+        room,
+    })
 }
 
-fn cut_all(line: &[u8], at: usize) -> Command {
-    let l = Argument::from(at).number(line);
-    let msg_id = l.hex(line, MSG_ID_DIGITS);
-    let end = msg_id.end(line);
-    if end.reason != UNDERSTOOD {
-        return Command::NotUnderstood(end.reason);
-    }
-    Command::CutAll {
-        l: l.value,
-        msg_id: (msg_id.value % 4294967296) as u32,
-    }
+fn cut_all(mut arguments: Arguments) -> Result<Command, Reason> {
+    let l = arguments.number()?;
+    let msg_id = arguments.hex(MSG_ID_DIGITS)?;
+    arguments.end()?;
+    Ok(Command::CutAll {
+        l,
+        msg_id: msg_id as u32,
+    })
 }
 
-fn rejoin(line: &[u8], at: usize) -> Command {
-    let end = Argument::from(at).end(line);
-    if end.reason != UNDERSTOOD {
-        return Command::NotUnderstood(end.reason);
-    }
-    Command::Rejoin
+fn rejoin(arguments: Arguments) -> Result<Command, Reason> {
+    arguments.end()?;
+    Ok(Command::Rejoin)
 }
 
-fn join(line: &[u8], at: usize, bytes: &mut [u8]) -> Command {
-    let l = Argument::from(at).number(line);
-    let room = l.decimal(line, MAX_PAYLOAD as u32);
-    let read = room.bytes(line, bytes);
-    if read.reason != UNDERSTOOD {
-        return Command::NotUnderstood(read.reason);
-    }
-    Command::Join {
-        l: l.value,
-        room: room.value,
-        n: read.value,
-    }
+fn join(mut arguments: Arguments, bytes: &mut [u8]) -> Result<Command, Reason> {
+    let l = arguments.number()?;
+    let room = arguments.decimal(MAX_PAYLOAD as u32)?;
+    let n = arguments.bytes(bytes)?;
+    Ok(Command::Join { l, room, n })
 }
 
-// The command of a line, and the bytes that it names in `bytes`.
-pub(crate) fn parse(line: &[u8], bytes: &mut [u8]) -> Command {
+// The command of a line, and the bytes that it names in `bytes`; why there is none.
+pub(crate) fn parse(line: &[u8], bytes: &mut [u8]) -> Result<Command, Reason> {
     let start = words::word_start(line, 0);
     if line.len() <= start {
-        return Command::NotUnderstood(UNKNOWN_WORD);
+        return Err(Reason::UnknownWord);
     }
     let end = words::word_end(line, start + 1);
-    let word = &line[start..end];
-    if words::same(word, b"join") {
-        return join(line, end, bytes);
+    let arguments = Arguments::from(line, end);
+    match &line[start..end] {
+        b"join" => join(arguments, bytes),
+        b"cut" => cut(arguments),
+        b"cutall" => cut_all(arguments),
+        b"fill" => fill(arguments),
+        b"payload" => payload(arguments, bytes),
+        b"count" => count(arguments),
+        b"rejoin" => rejoin(arguments),
+        _ => Err(Reason::UnknownWord),
     }
-    if words::same(word, b"cut") {
-        return cut(line, end);
-    }
-    if words::same(word, b"cutall") {
-        return cut_all(line, end);
-    }
-    if words::same(word, b"fill") {
-        return fill(line, end);
-    }
-    if words::same(word, b"payload") {
-        return payload(line, end, bytes);
-    }
-    if words::same(word, b"count") {
-        return count(line, end);
-    }
-    if words::same(word, b"rejoin") {
-        return rejoin(line, end);
-    }
-    Command::NotUnderstood(UNKNOWN_WORD)
 }

@@ -1,13 +1,14 @@
 // The arguments of a command, read from the left. The first that is wrong gives the reason, and the ones behind it are passed over.
 #![tactic(auto)]
 
-ghost use Rattle.std.specs.Prelude.{◌≡◌, ◌+◌, ◌<◌, length, set};
+ghost use Rattle.std.specs.Prelude.{◌≡◌, ◌+◌, ◌^◌, ◌<◌, ◌≤◌, length, set, IfOk, MatchResult};
 ghost use Rattle.std.proofs.lemmas.List.Edits.{sets};
 ghost use Rattle.laws.specs.Buffers.{Wrote};
 ghost use Rattle.text_words.specs.Text.{bytes_of};
-ghost use Rattle.text_arguments.specs.Reading.{any_number, found, none, decimal_at, hex_at, group_reason, bytes_at, bytes_stored, end_at};
+ghost use Rattle.text_arguments.specs.Reading.{any_number, reason_of, value_of, place_of, start_of, word_of, end_of, decimal_at, hex_at, group_reason, bytes_at, bytes_stored, end_at};
+ghost use Rattle.text_arguments.specs.declared.Reason.TheVariants.{WordMissing};
 
-use text_words::numbers::DecimalWord;
+use text_words::numbers::NotDecimal;
 use text_words::{numbers, words};
 
 // Why a line is not understood.
@@ -26,180 +27,128 @@ pub enum Reason {
     TooMany,
 }
 
-// Why a line is not understood; 0 where it is.
-pub const UNDERSTOOD: u8 = 0;
+impl From<NotDecimal> for Reason {
+    ghost from_gives = { λ word reason. reason ≡ reason_of word };
 
-pub const UNKNOWN_WORD: u8 = 1;
-
-pub const WORD_MISSING: u8 = 2;
-
-pub const NO_DECIMAL: u8 = 3;
-
-pub const DOES_NOT_FIT: u8 = 4;
-
-pub const NO_HEX: u8 = 5;
-
-pub const ODD_HEX: u8 = 6;
-
-pub const WRONG_HEX: u8 = 7;
-
-pub const WORD_TOO_MANY: u8 = 8;
-
-pub const TOO_LONG: u8 = 9;
-
-pub const NO_PAIR: u8 = 10;
-
-pub const TOO_MANY: u8 = 11;
+    fn from(word: NotDecimal) -> Reason {
+        match word {
+            NotDecimal::NoNumber => Reason::NoDecimal,
+            NotDecimal::TooLarge => Reason::DoesNotFit,
+        }
+    }
+}
 
 // The limit of a number that has no other.
 const ANY: u32 = 4294967295;
 
-// A value, why there is none, and the place behind it.
+// A line, and the place from which its next argument is read; a wrong argument leaves it there.
 #[derive(Clone, Copy)]
-pub struct Argument {
-    pub reason: u8,
-    pub value: usize,
+pub struct Arguments<'a> {
+    pub line: &'a [u8],
     pub at: usize,
 }
 
-impl Argument {
-    // Arguments from this place on.
-    pub fn from(at: usize) -> Self
-        ensures { result ≡ found 0 at }
+impl<'a> Arguments<'a> {
+    // The arguments of a line from this place on.
+    pub fn from(line: &'a [u8], at: usize) -> Self
+        ensures { result ≡ record { line = line.entry; at = at } }
     {
-        Argument {
-            reason: UNDERSTOOD,
-            value: 0,
-            at,
-        }
+        Arguments { line, at }
     }
 
-    // None, for this reason.
-    pub fn wrong(reason: u8) -> Self
-        ensures { result ≡ none reason }
+    // The next word, and the place behind it.
+    fn word(&self) -> Result<(&'a [u8], usize), Reason>
+        ensures { MatchResult result
+            (λ w. (start_of self.now.line.now self.now.at < length self.now.line.now) × (w.0.now ≡ word_of self.now.line.now self.now.at) × (w.1 ≡ end_of self.now.line.now self.now.at))
+            (λ r. (length self.now.line.now ≤ start_of self.now.line.now self.now.at) × (r ≡ WordMissing)) }
     {
-        Argument {
-            reason,
-            value: 0,
-            at: 0,
+        let start = words::word_start(self.line, self.at);
+        if self.line.len() <= start {
+            return Err(Reason::WordMissing);
         }
+        let end = words::word_end(self.line, start);
+        Ok((&self.line[start..end], end))
     }
 
     // The next word as a decimal number of at most `limit`.
-    pub fn decimal(self, line: &[u8], limit: u32) -> Argument
-        ensures { result ≡ decimal_at line.now limit self }
+    pub fn decimal(&mut self, limit: u32) -> Result<usize, Reason>
+        ensures answer { result ≡ value_of (decimal_at self.old.line.now limit self.old.at) }
+        ensures place { self.new ≡ record self.old { at = place_of self.old.at (decimal_at self.old.line.now limit self.old.at) } }
+        ensures most { IfOk result (λ value. value ≤ limit) }
     {
-        if self.reason != UNDERSTOOD {
-            return self;
-        }
-        let start = words::word_start(line, self.at);
-        if line.len() <= start {
-            return Argument::wrong(WORD_MISSING);
-        }
-        let end = words::word_end(line, start);
-        match numbers::decimal(&line[start..end], limit) {
-            DecimalWord::NoNumber => Argument::wrong(NO_DECIMAL),
-            DecimalWord::TooLarge => Argument::wrong(DOES_NOT_FIT),
-            DecimalWord::Value(value) => Argument {
-                reason: UNDERSTOOD,
-                value,
-                at: end,
-            },
-        }
+        let (word, end) = self.word()?;
+        let value = numbers::decimal(word, limit)?;
+        self.at = end;
+        Ok(value)
     }
 
     // The next word as a decimal number of 32 bits.
-    pub fn number(self, line: &[u8]) -> Argument
-        ensures { result ≡ decimal_at line.now any_number self }
+    pub fn number(&mut self) -> Result<usize, Reason>
+        ensures answer { result ≡ value_of (decimal_at self.old.line.now any_number self.old.at) }
+        ensures place { self.new ≡ record self.old { at = place_of self.old.at (decimal_at self.old.line.now any_number self.old.at) } }
+        ensures most { IfOk result (λ value. value ≤ any_number) }
     {
-        self.decimal(line, ANY)
+        self.decimal(ANY)
     }
 
     // The next word as this many hexadecimal digits.
-    pub fn hex(self, line: &[u8], width: usize) -> Argument
-        ensures { result ≡ hex_at line.now width self }
+    pub fn hex(&mut self, width: usize) -> Result<usize, Reason>
+        ensures answer { result ≡ value_of (hex_at self.old.line.now width self.old.at) }
+        ensures place { self.new ≡ record self.old { at = place_of self.old.at (hex_at self.old.line.now width self.old.at) } }
+        ensures below { IfOk result (λ value. value < 16 ^ width) }
     {
-        if self.reason != UNDERSTOOD {
-            return self;
-        }
-        let start = words::word_start(line, self.at);
-        if line.len() <= start {
-            return Argument::wrong(WORD_MISSING);
-        }
-        let end = words::word_end(line, start);
-        let word = &line[start..end];
+        let (word, end) = self.word()?;
         if !numbers::all_hex(word) {
-            return Argument::wrong(NO_HEX);
+            return Err(Reason::NoHex);
         }
         if word.len() != width {
-            return Argument::wrong(WRONG_HEX);
+            return Err(Reason::WrongHex);
         }
-        let value = numbers::hex(word) as usize;
-        Argument {
-            reason: UNDERSTOOD,
-            value,
-            at: end,
-        }
+        self.at = end;
+        Ok(numbers::hex(word) as usize)
     }
 
     // The rest of the line as bytes, into `bytes`; the value is their number, as far as there is room for them.
-    pub fn bytes(self, line: &[u8], bytes: &mut [u8]) -> Argument
-        ensures { (result ≡ bytes_at line.now (length bytes.old) self)
-            × (bytes.new ≡ sets bytes.old 0 (bytes_stored line.now self)) }
+    pub fn bytes(&mut self, bytes: &mut [u8]) -> Result<usize, Reason>
+        ensures answer { result ≡ value_of (bytes_at self.old.line.now (length bytes.old) self.old.at) }
+        ensures place { self.new ≡ record self.old { at = place_of self.old.at (bytes_at self.old.line.now (length bytes.old) self.old.at) } }
+        ensures stored { bytes.new ≡ sets bytes.old 0 (bytes_stored self.old.line.now self.old.at) }
     {
-        if self.reason != UNDERSTOOD {
-            return self;
-        }
+        let line = self.line;
         let mut start = words::word_start(line, self.at);
         let mut count = 0;
         while start < line.len() {
             let end = words::word_end(line, start);
-            let reason = group_reason(&line[start..end]);
-            if reason != UNDERSTOOD {
-                return Argument::wrong(reason);
-            }
+            whole_bytes(&line[start..end])?;
             count = store(&line[start..end], bytes, count);
             start = words::word_start(line, end);
         }
-        if bytes.len() < count {
-            return Argument {
-                reason: UNDERSTOOD,
-                value: bytes.len(),
-                at: line.len(),
-            };
-        }
-        Argument {
-            reason: UNDERSTOOD,
-            value: count,
-            at: line.len(),
-        }
+        self.at = line.len();
+        Ok(count.min(bytes.len()))
     }
 
     // No word is left.
-    pub fn end(self, line: &[u8]) -> Argument
-        ensures { result ≡ end_at line.now self }
+    pub fn end(&self) -> Result<(), Reason>
+        ensures { result ≡ end_at self.now.line.now self.now.at }
     {
-        if self.reason != UNDERSTOOD {
-            return self;
+        if words::word_start(self.line, self.at) < self.line.len() {
+            return Err(Reason::WordTooMany);
         }
-        if words::word_start(line, self.at) < line.len() {
-            return Argument::wrong(WORD_TOO_MANY);
-        }
-        self
+        Ok(())
     }
 }
 
-// Why a group is no bytes.
-fn group_reason(group: &[u8]) -> u8
+// A group is whole bytes.
+fn whole_bytes(group: &[u8]) -> Result<(), Reason>
     ensures { result ≡ group_reason group.now }
 {
     if !numbers::all_hex(group) {
-        return NO_HEX;
+        return Err(Reason::NoHex);
     }
     if group.len() % 2 != 0 {
-        return ODD_HEX;
+        return Err(Reason::OddHex);
     }
-    UNDERSTOOD
+    Ok(())
 }
 
 // A byte at this place, if there is room for it.
@@ -216,12 +165,12 @@ fn store(group: &[u8], bytes: &mut [u8], from: usize) -> usize
     requires { from + length group.now < 18446744073709551616 }
     ensures { Wrote bytes.old from (bytes_of group.now) result bytes.new }
 {
-    let mut at = from;
-    let mut i = 0;
-    while i + 1 < group.len() {
-        put(bytes, at, numbers::byte(group[i], group[i + 1]));
-        at += 1;
-        i += 2;
+    for i in 0..group.len() / 2 {
+        put(
+            bytes,
+            from + i,
+            numbers::byte(group[2 * i], group[2 * i + 1]),
+        );
     }
-    at
+    from + group.len() / 2
 }

@@ -12,7 +12,7 @@ use Rattle.io.specs.Digits.{last_digits, hex_digit_ascii}
 use Rattle.laws.specs.Bools.{cond_true, cond_false, and_left, and_right, and_true}
 use Rattle.text_words.specs.Text.{hex_value, glyph_of, number_from, number, all_digits, byte_of, bytes_of}
 use Rattle.text_words.specs.Text.{decimal_of as read}
-use Rattle.text_words.specs.declared.numbers.DecimalWord.TheVariants.{Value}
+use Rattle.std.specs.Prelude.{Ok}
 use Rattle.text_out.specs.Spelling.{hex_of, places_of, width_of, decimal_of, decimal_length}
 use Rattle.text_out.proofs.Widths.{places_none, places_more}
 
@@ -50,7 +50,6 @@ number_digits (suc k) n h =
     number_behind 10 0 (last_digits 10 k (n / 10)) (hex_digit_ascii (n % 10)) ∙ omega (arith, rest, value_last n)
 
 digits_all : (k n : ℕ) → all_digits 10 (last_digits 10 k n) ≡ true
-unfolding all_digits
 digits_all zero n = refl
 digits_all (suc k) n = behind (last_digits 10 k (n / 10)) (digits_all k (n / 10))
   where
@@ -85,11 +84,11 @@ all : (n : ℕ) → all_digits 10 (decimal_of n) ≡ true
 unfolding decimal_of
 all n = digits_all (width_of n) n
 
-pub decimal_back : (n limit : ℕ) → n ≤ limit → read (decimal_of n) limit ≡ Value n
+pub decimal_back : (n limit : ℕ) → n ≤ limit → read (decimal_of n) limit ≡ Ok n
 unfolding read
 decimal_back n limit h =
     cond_true _ _ (and_true _ _ (lt-ltb 0 (length (decimal_of n)) (some n)) (all n))
-    ∙ cond_true _ _ (le-leb (number 10 (decimal_of n)) limit (omega (arith, h, number_back n))) ∙ ap Value (number_back n)
+    ∙ cond_true _ _ (le-leb (number 10 (decimal_of n)) limit (omega (arith, h, number_back n))) ∙ ap (λ (m : ℕ). Ok m) (number_back n)
 
 -- a byte in hexadecimal is that byte
 value_glyph : (n : ℕ) → n < 16 → hex_value (glyph_of n) ≡ n

@@ -1,5 +1,4 @@
 -- Laws that the functions' proofs use, and a line worked out.
 pub mod Ranges
-pub mod Matching
 pub mod Reckoning
 pub mod Examples

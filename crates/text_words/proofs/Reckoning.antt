@@ -7,16 +7,15 @@ use native.Mathlib.Omega.{arith}
 use borrow.Author.Tests.{lt-ltb, le-ltb, le-leb, lt-leb}
 use lib.ListN.{length}
 use Rattle.text_words.specs.Text.{hex_value, all_digits, number_from, number, decimal_of}
-use Rattle.text_words.specs.declared.numbers.DecimalWord.TheVariants.{NoNumber, TooLarge, Value}
+use Rattle.std.specs.Prelude.{Ok, Err}
+use Rattle.text_words.specs.declared.numbers.NotDecimal.TheVariants.{NoNumber, TooLarge}
 
 module _ (base : ℕ) {x : ℕ} {xs rest : List ℕ} (e : xs ≡ x ∷ rest) where
   -- the byte at hand is no digit, or the others decide
   pub digits_stop : base ≤ hex_value x → all_digits base xs ≡ false
-  unfolding all_digits
   digits_stop h = ap (all_digits base) e ∙ ap (λ (b : Bool). b && all_digits base rest) (le-ltb (hex_value x) base h)
 
   pub digits_on : hex_value x < base → all_digits base xs ≡ all_digits base rest
-  unfolding all_digits
   digits_on h = ap (all_digits base) e ∙ ap (λ (b : Bool). b && all_digits base rest) (lt-ltb (hex_value x) base h)
 
   -- the number with the digit at hand
@@ -25,7 +24,6 @@ module _ (base : ℕ) {x : ℕ} {xs rest : List ℕ} (e : xs ≡ x ∷ rest) whe
   number_on n h = sym (ap (number_from base n) e ∙ ap (λ (d : ℕ). number_from base (n * base + d) rest) (sym h))
 
 pub digits_end : (base : ℕ) {xs : List ℕ} → xs ≡ [] → all_digits base xs ≡ true
-unfolding all_digits
 digits_end base e = ap (all_digits base) e
 
 pub number_end : (base n : ℕ) {xs : List ℕ} → xs ≡ [] → number_from base n xs ≡ n
@@ -48,19 +46,19 @@ number_low n (x ∷ xs) =
 
 -- a decimal number: none without a byte, none with another byte, one above the limit, and one that fits
 module _ (word : List ℕ) (limit : ℕ) where
-  pub decimal_empty : length word ≡ 0 → decimal_of word limit ≡ NoNumber
+  pub decimal_empty : length word ≡ 0 → decimal_of word limit ≡ Err NoNumber
   unfolding decimal_of
   decimal_empty h = rw (le-ltb 0 (length word) (omega arith))
 
-  pub decimal_none : (length word ≡ 0 → ⊥) → all_digits 10 word ≡ false → decimal_of word limit ≡ NoNumber
+  pub decimal_none : (length word ≡ 0 → ⊥) → all_digits 10 word ≡ false → decimal_of word limit ≡ Err NoNumber
   unfolding decimal_of
   decimal_none h k = rw (lt-ltb 0 (length word) (omega arith), k)
 
   module _ (h : length word ≡ 0 → ⊥) (k : all_digits 10 word ≡ true) where
-    pub decimal_large : limit < number 10 word → decimal_of word limit ≡ TooLarge
+    pub decimal_large : limit < number 10 word → decimal_of word limit ≡ Err TooLarge
     unfolding decimal_of
     decimal_large l = rw (lt-ltb 0 (length word) (omega arith), k, lt-leb (number 10 word) limit l)
 
-    pub decimal_fits : {n : ℕ} → n ≡ number 10 word → n ≤ limit → decimal_of word limit ≡ Value n
+    pub decimal_fits : {n : ℕ} → n ≡ number 10 word → n ≤ limit → decimal_of word limit ≡ Ok n
     unfolding decimal_of
     decimal_fits {n} e l = rw (lt-ltb 0 (length word) (omega arith), k, le-leb (number 10 word) limit (omega arith), e)

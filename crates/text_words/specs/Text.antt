@@ -1,8 +1,10 @@
 -- The text of a bench script: blanks, words, digits and numbers.
-use Rattle.std.specs.Prelude.{ℕ, ◌+◌, ◌-◌, ◌*◌, ◌%◌, Bool, true, false, cond, not, ◌&&◌, ◌||◌, List, [], ◌∷◌, reverse, eqb, leb, ltb, length}
+use Rattle.std.specs.Prelude.{ℕ, ◌+◌, ◌-◌, ◌*◌, ◌%◌, Bool, cond, not, ◌&&◌, ◌||◌, List, [], ◌∷◌, reverse, eqb, leb, ltb, length, Option, Some, None, Result, Ok, Err}
+use Rattle.std.specs.List.{list_all}
+use Rattle.std.specs.Str.{bytes_eq}
 use Rattle.laws.specs.Runs.{leading}
-use Rattle.text_words.specs.declared.numbers.DecimalWord.{DecimalWord}
-use Rattle.text_words.specs.declared.numbers.DecimalWord.TheVariants.{NoNumber, TooLarge, Value}
+use Rattle.text_words.specs.declared.numbers.NotDecimal.{NotDecimal}
+use Rattle.text_words.specs.declared.numbers.NotDecimal.TheVariants.{NoNumber, TooLarge}
 
 -- blanks are space and tab
 unfoldable pub is_blank : ℕ → Bool
@@ -30,12 +32,9 @@ blanks text = leading is_blank text
 abbrev pub glyphs : List ℕ → ℕ
 glyphs text = leading is_glyph text
 
--- the same word
-unfoldable pub same_word : List ℕ → List ℕ → Bool
-same_word [] [] = true
-same_word [] (y ∷ ys) = false
-same_word (x ∷ xs) [] = false
-same_word (x ∷ xs) (y ∷ ys) = eqb x y && same_word xs ys
+-- the same word: the same bytes
+abbrev pub same_word : List ℕ → List ℕ → Bool
+same_word word other = bytes_eq word other
 
 -- a byte from `low` to `high`
 abbrev pub within : ℕ → ℕ → ℕ → Bool
@@ -45,14 +44,17 @@ within low high b = leb low b && leb b high
 unfoldable pub hex_value : ℕ → ℕ
 hex_value b = cond (within 48 57 b) (b - 48) (cond (within 65 70 b) (b - 65 + 10) (cond (within 97 102 b) (b - 97 + 10) 16))
 
+-- the value of what is a digit
+unfoldable pub digit_of : ℕ → Option ℕ
+digit_of b = cond (eqb (hex_value b) 16) None (Some (hex_value b))
+
 -- the digit of a value's low four bits: hexadecimal is in upper case
 unfoldable pub glyph_of : ℕ → ℕ
 glyph_of n = cond (ltb (n % 16) 10) (48 + n % 16) (65 + (n % 16 - 10))
 
 -- every byte is a digit to this base
-unfoldable pub all_digits : ℕ → List ℕ → Bool
-all_digits base [] = true
-all_digits base (x ∷ xs) = ltb (hex_value x) base && all_digits base xs
+abbrev pub all_digits : ℕ → List ℕ → Bool
+all_digits base word = list_all (λ x. ltb (hex_value x) base) word
 
 -- the number that digits write, the highest first, behind those that make n
 unfoldable pub number_from : ℕ → ℕ → List ℕ → ℕ
@@ -63,11 +65,11 @@ abbrev pub number : ℕ → List ℕ → ℕ
 number base word = number_from base 0 word
 
 -- a decimal number is a word of digits, and has a limit
-unfoldable pub decimal_of : List ℕ → ℕ → DecimalWord
+unfoldable pub decimal_of : List ℕ → ℕ → Result ℕ NotDecimal
 decimal_of word limit =
     cond (ltb 0 (length word) && all_digits 10 word)
-    (cond (leb (number 10 word) limit) (Value (number 10 word)) TooLarge)
-    NoNumber
+    (cond (leb (number 10 word) limit) (Ok (number 10 word)) (Err TooLarge))
+    (Err NoNumber)
 
 -- two hexadecimal digits are a byte
 unfoldable pub byte_of : ℕ → ℕ → ℕ

@@ -1,52 +1,48 @@
 // Numbers and bytes as a script writes them.
-ghost use Rattle.std.specs.Prelude.{◌≡◌, ◌%◌, ◌≤◌, min};
-ghost use Rattle.text_words.specs.Text.{all_digits, number, decimal_of, byte_of};
+ghost use Rattle.std.specs.Prelude.{◌≡◌, ◌%◌, ◌≤◌, min, IfOk};
+ghost use Rattle.text_words.specs.Text.{hex_value, all_digits, number, decimal_of, byte_of};
 
 use super::digits;
 
-// What a word of digits is: no number, above the limit, or a number.
-#[derive(Clone, Copy)]
-pub enum DecimalWord {
+// Why a word is no decimal number of at most a limit: another byte than a digit, or above the limit.
+#[derive(Clone, Copy, PartialEq, Eq, Debug)]
+pub enum NotDecimal {
     NoNumber,
     TooLarge,
-    Value(usize),
+}
+
+// What a byte counts for in a number; one that is no digit counts for 16.
+fn counted(byte: u8) -> usize
+    ensures value { result ≡ hex_value byte }
+    ensures most { result ≤ 16 }
+{
+    digits::hex_value(byte).map_or(16, usize::from)
 }
 
 // Every byte is a digit to this base.
-fn all_digits(word: &[u8], base: u8) -> bool
+fn all_digits(word: &[u8], base: usize) -> bool
     ensures { result ≡ all_digits base word.now }
 {
-    let mut i = 0;
-    while i < word.len() {
-        if base <= digits::hex_value(word[i]) {
-            return false;
-        }
-        i += 1;
-    }
-    true
+    word.iter().all(|byte| counted(*byte) < base)
 }
 
 // A word as a decimal number of at most `limit`.
-pub fn decimal(word: &[u8], limit: u32) -> DecimalWord
-    ensures { result ≡ decimal_of word.now limit }
+pub fn decimal(word: &[u8], limit: u32) -> Result<usize, NotDecimal>
+    ensures value { result ≡ decimal_of word.now limit }
+    ensures most { IfOk result (λ value. value ≤ limit) }
 {
-    if word.len() == 0 {
-        return DecimalWord::NoNumber;
-    }
-    if !all_digits(word, 10) {
-        return DecimalWord::NoNumber;
+    if word.is_empty() || !all_digits(word, 10) {
+        return Err(NotDecimal::NoNumber);
     }
     let most = limit as usize;
     let mut value = 0;
-    let mut i = 0;
-    while i < word.len() {
-        value = value * 10 + digits::hex_value(word[i]) as usize;
+    for byte in word {
+        value = value * 10 + counted(*byte);
         if most < value {
-            return DecimalWord::TooLarge;
+            return Err(NotDecimal::TooLarge);
         }
-        i += 1;
     }
-    DecimalWord::Value(value)
+    Ok(value)
 }
 
 // Every byte is a hexadecimal digit.
@@ -61,10 +57,8 @@ pub fn hex(word: &[u8]) -> u32
     ensures { result ≡ number 16 word.now % 4294967296 }
 {
     let mut value: usize = 0;
-    let mut i = 0;
-    while i < word.len() {
-        value = (value * 16 + digits::hex_value(word[i]) as usize) % 4294967296;
-        i += 1;
+    for byte in word {
+        value = (value * 16 + counted(*byte)) % 4294967296;
     }
     value as u32
 }
@@ -73,7 +67,7 @@ pub fn hex(word: &[u8]) -> u32
 pub fn byte(high: u8, low: u8) -> u8
     ensures { result ≡ byte_of high low }
 {
-    let value = digits::hex_value(high) as usize * 16 + digits::hex_value(low) as usize;
+    let value = counted(high) * 16 + counted(low);
     (value % 256) as u8
 }
 
@@ -81,8 +75,5 @@ pub fn byte(high: u8, low: u8) -> u8
 pub fn smaller(a: usize, b: usize) -> usize
     ensures { (result ≡ min a b) × (result ≤ a) × (result ≤ b) }
 {
-    if a <= b {
-        return a;
-    }
-    b
+    a.min(b)
 }

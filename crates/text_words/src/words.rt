@@ -8,57 +8,41 @@ use super::digits;
 pub fn word_start(line: &[u8], from: usize) -> usize
     ensures { (result ≡ from + blanks (drop from line.now)) × (from ≤ result) }
 {
-    let mut at = from;
-    while at < line.len() {
+    for at in from..line.len() {
         if !digits::is_blank(line[at]) {
             return at;
         }
-        at += 1;
     }
-    at
+    from.max(line.len())
 }
 
 // The place of the first blank from `from` on, or the line's end.
 pub fn word_end(line: &[u8], from: usize) -> usize
     ensures { (result ≡ from + glyphs (drop from line.now)) × (from ≤ result) × (result - from ≤ length line.now - from) }
 {
-    let mut at = from;
-    while at < line.len() {
+    for at in from..line.len() {
         if digits::is_blank(line[at]) {
             return at;
         }
-        at += 1;
     }
-    at
+    from.max(line.len())
 }
 
-// The same bytes.
+// The same bytes: what `==` says of two words.
 pub fn same(word: &[u8], other: &[u8]) -> bool
     ensures { result ≡ same_word word.now other.now }
 {
-    if word.len() != other.len() {
-        return false;
-    }
-    let mut i = 0;
-    while i < word.len() {
-        if word[i] != other[i] {
-            return false;
-        }
-        i += 1;
-    }
-    true
+    word == other
 }
 
 // A line's length without the blanks and CRs at its end.
 pub fn trimmed(line: &[u8]) -> usize
     ensures { (result ≡ trimmed_length line.now) × (result ≤ length line.now) }
 {
-    let mut n = line.len();
-    while 0 < n {
-        if !digits::is_dropped(line[n - 1]) {
-            return n;
+    for n in (0..line.len()).rev() {
+        if !digits::is_dropped(line[n]) {
+            return n + 1;
         }
-        n -= 1;
     }
     0
 }

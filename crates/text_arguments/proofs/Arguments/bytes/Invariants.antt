@@ -2,7 +2,7 @@
 use Prim.Native.Nat.{◌-◌}
 use lib.ListN.{length}
 use Rattle.text_arguments.proofs.Groups.{Left}
-use Rattle.text_arguments.proofs.Argument.bytes.Given as goal
+use Rattle.text_arguments.proofs.Arguments.bytes.Given as goal
 
 abbrev pub invariant-loop-start : goal.invariant-loop-start
 invariant-loop-start l = Left l.line l.initial.start l.initial.bytes l.start l.count l.bytes

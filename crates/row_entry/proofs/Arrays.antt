@@ -1,10 +1,10 @@
 -- The rows of a ring: one place, a store, the length.
-use Prim.Native.Nat.{ℕ, ◌+◌, ◌<◌, ◌≤◌, min}
-use mathlib.Core.Path.{◌≡◌, sym, ◌∙◌, ap}
-use mathlib.Core.List.{List, [], ◌∷◌}
+use Prim.Native.Nat.{ℕ, zero, suc, ◌+◌, ◌<◌, ◌≤◌, min}
+use mathlib.Core.Path.{◌≡◌, refl, sym, ◌∙◌, ap}
+use mathlib.Core.List.{List, [], ◌∷◌, map}
 use native.Mathlib.Omega.{arith}
-use lib.ListN.{length, get_or, set, drop}
-use Rattle.laws.specs.Views.{firsts_length, firsts_here, firsts_past, firsts_at, firsts_set, firsts_min}
+use lib.ListN.{length, get_or, set, drop, take}
+use Rattle.laws.specs.Views.{firsts, firsts_length, firsts_here, firsts_past, firsts_at, firsts_set, firsts_min}
 use Rattle.rules.specs.House.{max_units}
 use Rattle.rules.specs.Picture.{Row}
 use Rattle.row_entry.specs.declared.NodeEntry.{NodeEntry}
@@ -31,3 +31,10 @@ module _ (es : List NodeEntry) (h : length es ≡ max_units) where
 pub rows_set : (k i : ℕ) (e : NodeEntry) (es : List NodeEntry) → rows_of k (set es i e) ≡ set (rows_of k es) i (row_of e)
 unfolding rows_of
 rows_set k i e es = firsts_set row_of k i e es
+
+-- the rows of a slice: what each of its entries stands for
+pub rows_take : (k : ℕ) (es : List NodeEntry) → rows_of k es ≡ map row_of (take k es)
+unfolding rows_of firsts
+rows_take zero es = refl
+rows_take (suc k) [] = refl
+rows_take (suc k) (e ∷ es) = ap (λ (l : List Row). row_of e ∷ l) (rows_take k es)

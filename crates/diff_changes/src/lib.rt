@@ -84,7 +84,7 @@ pub fn gone(before: NodeRow, after: NodeRow) -> Pairs
     ensures { pairs_of result ≡ gone_in (seen_in before) (seen_in after) }
 {
     if is_seated(after) {
-        return seen_pairs(before).missing(seen_pairs(after));
+        return seen_pairs(before).missing(&seen_pairs(after));
     }
     Pairs::none()
 }
@@ -93,7 +93,7 @@ pub fn gone(before: NodeRow, after: NodeRow) -> Pairs
 pub fn new(before: NodeRow, after: NodeRow) -> Pairs
     ensures { pairs_of result ≡ new_in (seen_in before) (seen_in after) }
 {
-    seen_pairs(after).missing(seen_pairs(before))
+    seen_pairs(after).missing(&seen_pairs(before))
 }
 
 // How many lines the position has.

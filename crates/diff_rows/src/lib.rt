@@ -28,7 +28,7 @@ fn twice(pairs: &Pairs) -> bool
     ensures { result ≡ twice (pairs_of pairs.now) }
 {
     for i in 0..pairs.len() {
-        if pairs.holds_from(i + 1, pairs.blocks[i], pairs.numbers[i]) {
+        if pairs.holds_from(i + 1, pairs.at(i)) {
             return true;
         }
     }

@@ -76,7 +76,7 @@ pub fn head_kind(before: &Option<NodeRow>, after: &Option<NodeRow>) -> Option<Li
     ensures { told result ≡ head_kind (seen_in before.now) (seen_in after.now) }
 {
     match (before, after) {
-        (Some(stood), Some(stands)) if stood.entry.address.same(stands.entry.address) => None,
+        (Some(stood), Some(stands)) if stood.entry.address == stands.entry.address => None,
         (Some(_), Some(_)) => Some(LineKind::AddressChanged),
         (Some(_), None) => Some(LineKind::PositionGone),
         (None, Some(_)) => Some(LineKind::PositionNew),
@@ -90,7 +90,7 @@ pub fn gone(before: &Option<NodeRow>, after: &Option<NodeRow>) -> Pairs
     ensures { pairs_of result ≡ gone_in (seen_in before.now) (seen_in after.now) }
 {
     match after {
-        Some(row) => seen_pairs(before).missing(row.pairs()),
+        Some(row) => seen_pairs(before).missing(&row.pairs()),
         None => Pairs::none(),
     }
 }
@@ -100,7 +100,7 @@ pub fn gone(before: &Option<NodeRow>, after: &Option<NodeRow>) -> Pairs
 pub fn new(before: &Option<NodeRow>, after: &Option<NodeRow>) -> Pairs
     ensures { pairs_of result ≡ new_in (seen_in before.now) (seen_in after.now) }
 {
-    seen_pairs(after).missing(seen_pairs(before))
+    seen_pairs(after).missing(&seen_pairs(before))
 }
 
 // How many lines the position has.

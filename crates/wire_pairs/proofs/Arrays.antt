@@ -120,10 +120,13 @@ module _ (cap : ℕ) (bs ns : List ℕ) (h : length bs ≡ cap) (k : length ns �
   pairs_next true c b n l f = rw f (pairs_push c b n l)
   pairs_next false c b n l f = let z : c + 0 ≡ c = omega arith in rw (f, z) (pairs_behind c b n ∙ sym (append-nil (pairs_from c bs ns)))
 
--- none past the end
-pub none_past : (p : Pairs) → length p.blocks ≡ max_pairs → length p.numbers ≡ max_pairs → (i : ℕ) → min p.count max_pairs ≤ i → drop i (pairs_of p) ≡ []
+-- as many as are counted, and no more than there are places; none past the end
+pub pairs_count : (p : Pairs) → length p.blocks ≡ max_pairs → length p.numbers ≡ max_pairs → length (pairs_of p) ≡ min p.count max_pairs
 unfolding pairs_of
-none_past p h k i l = pairs_past max_pairs p.blocks p.numbers h k p.count i l
+pairs_count p h k = pairs_length max_pairs p.blocks p.numbers h k p.count
+
+pub none_past : (ps : List Pair) {n i : ℕ} → length ps ≡ n → n ≤ i → drop i ps ≡ []
+none_past ps {n} {i} h l = drop_of_length-le ps {i = i} (omega arith)
 
 -- the pairs that are missing, one at a time: those found so far, and those of the rest
 pub missing_on : (found next : List Pair) {ps rest : List Pair} {a : Pair} (qs : List Pair) {k : Bool} {whole : List Pair} → ps ≡ a ∷ rest

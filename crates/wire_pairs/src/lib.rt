@@ -3,7 +3,7 @@
 
 pub mod bools; // bools.rt: tests put together
 
-ghost use Rattle.std.specs.Prelude.{◌≡◌, cond, [], ◌∷◌, ◌++◌, ◌+◌, ◌<◌, ◌≤◌, min, take, drop};
+ghost use Rattle.std.specs.Prelude.{◌≡◌, cond, [], ◌∷◌, ◌++◌, ◌+◌, ◌<◌, ◌≤◌, min, length, take, drop};
 ghost use Rattle.rules.specs.House.{max_pairs};
 ghost use Rattle.rules.specs.Picture.{same_pair, holds};
 ghost use Rattle.rules.specs.Ending.{missing};
@@ -61,7 +61,7 @@ impl Pairs {
 
     // How many pairs there are.
     pub fn len(&self) -> usize
-        ensures { result ≡ min self.now.count max_pairs }
+        ensures { (result ≡ min self.now.count max_pairs) × (length (pairs_of self.now) ≡ result) }
     {
         self.count.min(MAX_PAIRS)
     }

@@ -4,8 +4,6 @@ use Rattle.rules.specs.Picture.{holds, same_pair}
 use Rattle.wire_pairs.proofs.Arrays.{none_past}
 use Rattle.wire_pairs.specs.View.{pair_in, pair_of}
 use mathlib.Core.Path.{◌∙◌, sym}
-use native.Mathlib.Omega.{arith}
-use borrow.Author.Rules.{rules}
 use Rattle.wire_pairs.proofs.Pairs.holds_from.Goals as goal
 
 pub returns-then-eq : goal.returns-then-eq
@@ -19,4 +17,4 @@ loop-i-preserved c = any_skip (same_pair _) c.at.ensures (sym c.eq.ensures ∙ c
 pub returns : goal.returns
 unfolding holds
 returns c =
-    sym (sym c.loop-i.invariant ∙ any_empty (same_pair _) (none_past c.args.self.now (search rules) (search rules) c.loop-i.i (omega (arith, c.len-i-end.ensures, c.loop-i-test.false))))
+    sym (sym c.loop-i.invariant ∙ any_empty (same_pair _) (none_past _ c.len-i-end.ensures.1 c.loop-i-test.false))

@@ -1,7 +1,6 @@
 -- At every turn the pairs found so far and those missing of the rest are all that are missing.
 use Rattle.wire_pairs.proofs.Arrays.{missing_end, missing_on, none_past}
 use Rattle.wire_pairs.specs.View.{pairs_of}
-use borrow.Author.Rules.{rules}
 use mathlib.Core.Bool.{not, true, false}
 use mathlib.Core.List.{append-nil}
 use mathlib.Core.Path.{◌∙◌, ap, sym}
@@ -24,4 +23,4 @@ loop-i-preserved c =
 
 pub returns : goal.returns
 returns c =
-    missing_end _ (pairs_of c.args.other.now) (none_past c.args.self.now (search rules) (search rules) c.loop-i.i (omega (arith, c.len-i-end.ensures, c.loop-i-test.false))) c.loop-i.invariant.found
+    missing_end _ (pairs_of c.args.other.now) (none_past _ c.len-i-end.ensures.1 c.loop-i-test.false) c.loop-i.invariant.found

@@ -11,6 +11,7 @@ use numbers::{DONE, NOT_LISTED};
 use row_entry::{NodeEntry, clamp};
 use sizes::MAX_UNITS;
 use wire_address::{LogicalNodeAddress, NodePosition};
+use wire_pairs::Pair;
 
 // What a look-up answers: the number of a refusal, or where the pair is listed.
 #[derive(Clone, Copy)]
@@ -73,7 +74,7 @@ pub fn find(count: usize, entries: [NodeEntry; MAX_UNITS], block: u8, number: u8
         let entry = entries[i];
         let pairs = entry.pairs();
         let address = entry.address;
-        if pairs.holds(block, number) {
+        if pairs.holds(Pair { block, number }) {
             let before = i as u8;
             let position = before + 1;
             return Lookup::Found {

@@ -20,8 +20,8 @@ fn changes(delta: Delta, before: NodeEntry, after: NodeEntry) -> Pairs
     let old = before.pairs();
     let new = after.pairs();
     match delta {
-        Delta::New => new.missing(old),
-        Delta::Invalid => old.missing(new),
+        Delta::New => new.missing(&old),
+        Delta::Invalid => old.missing(&new),
     }
 }
 

@@ -17,7 +17,7 @@ pub fn mark_held(marks: &mut [bool; MAX_PAIRS], kept: Pairs, announced: Pairs)
     while i < n {
         marks[i] = either(
             marks[i],
-            kept.holds(announced.blocks[i], announced.numbers[i]),
+            kept.holds(announced.at(i)),
         );
         i += 1;
     }

@@ -5,7 +5,7 @@ ghost use Rattle.wire_pairs.specs.View.{pair_of, pairs_of};
 ghost use Rattle.row_judge.specs.Marks.{is_good_marked, judge_marked, judged_of};
 
 use sizes::MAX_PAIRS;
-use wire_pairs::{Pairs, one_if};
+use wire_pairs::{Pair, Pairs, one_if};
 
 // The numbers that a pair may have.
 pub const MIN_NUMBER: u8 = 0x01;
@@ -25,7 +25,7 @@ fn is_good(held: bool, announced: Pairs, earlier: usize, block: u8, number: u8) 
     if held {
         return false;
     }
-    if announced.first(earlier).holds(block, number) {
+    if announced.first(earlier).holds(Pair { block, number }) {
         return false;
     }
     true

@@ -7,7 +7,7 @@ ghost use Rattle.rules_unit.specs.Slave.{renumbered};
 ghost use Rattle.wire_pairs.specs.View.{pair_of, pairs_of};
 ghost use Rattle.unit_renumber.specs.Places.{first_at};
 
-use wire_pairs::Pairs;
+use wire_pairs::{Pair, Pairs};
 
 // Where the first such pair stands; the number of pairs where there is none.
 fn first_of(pairs: Pairs, block: u8, number: u8) -> usize
@@ -48,7 +48,7 @@ pub fn renumbered(mut pairs: Pairs, block: u8, old: u8, new: u8) -> Pairs
     if n <= place {
         return pairs;
     }
-    if pairs.first(place).holds(block, new) {
+    if pairs.first(place).holds(Pair { block, number: new }) {
         return pairs;
     }
     if held_from(pairs, place + 1, block, new) {

@@ -4,15 +4,20 @@ use mathlib.Core.Path.{◌≡◌, refl, sym, ◌∙◌, ap}
 use mathlib.Core.List.{List, [], ◌∷◌, ◌++◌, append_assoc, append-nil}
 use native.Mathlib.Nat.{not-suc-le-zero, le_of_suc-le-suc}
 use native.Mathlib.Omega.{arith}
-use lib.ListN.{length, get_or, set, drop, drop_of_length-le}
+use lib.ListN.{length, get_or, set, drop, take, drop_of_length-le}
 use lib.Seq.{set_out}
-use Rattle.laws.specs.Views.{firsts, firsts_length, firsts_few, firsts_here, firsts_at, firsts_set, firsts_push, firsts_min}
+use Rattle.laws.specs.Views.{firsts, firsts_length, firsts_few, firsts_here, firsts_at, firsts_set, firsts_push, firsts_min, take_firsts, take_past}
+use Rattle.laws.specs.Bools.{decide}
+use Rattle.std.proofs.Common.{leb, leb-true, leb-false}
+use mathlib.Core.Logic.{◌⊎◌, inl, inr}
 use mathlib.Core.Bool.{Bool, true, false, cond, not}
 use Rattle.laws.specs.Lists.{select}
 use Rattle.rules.specs.Ending.{missing}
 use Rattle.rules.specs.Picture as rules
 use Rattle.rules.specs.Picture.{Pair}
-use Rattle.wire_pairs.specs.View.{pair_of, zip_pairs, pairs_from}
+use Rattle.wire_pairs.specs.View.{pair_of, zip_pairs, pairs_from, pairs_of}
+use Rattle.wire_pairs.specs.declared.Pairs.{Pairs}
+use Rattle.rules.specs.House.{max_pairs}
 
 -- the shorter one ends both
 pub zip_short : (bs ns : List ℕ) → length (zip_pairs bs ns) ≡ min (length bs) (length ns)
@@ -61,6 +66,18 @@ module _ (bs ns : List ℕ) where
   pub first_past : (c i : ℕ) → min c (min (length bs) (length ns)) ≤ i → drop i (pairs_from c bs ns) ≡ []
   first_past c i l = drop_of_length-le (pairs_from c bs ns) {i = i} (omega (arith, first_length c))
 
+  -- a smaller count is the first of them
+  pub pairs_first : (c k : ℕ) → pairs_from (min c k) bs ns ≡ take k (pairs_from c bs ns)
+  unfolding pairs_from
+  pairs_first c k = go (decide (leb k c))
+    where
+      zs : List Pair
+      zs = zip_pairs bs ns
+
+      go : (leb k c ≡ true) ⊎ (leb k c ≡ false) → firsts (λ (a : Pair). a) (min c k) zs ≡ take k (firsts (λ (a : Pair). a) c zs)
+      go (inl l) = let h = leb-true k c l in let e : min c k ≡ k = omega arith in rw e (sym (take_firsts (λ (a : Pair). a) k c zs h))
+      go (inr l) = let h = leb-false k c l in let e : min c k ≡ c = omega arith in rw e (sym (take_past (λ (a : Pair). a) k c zs (omega arith)))
+
 -- two arrays of one length
 module _ (cap : ℕ) (bs ns : List ℕ) (h : length bs ≡ cap) (k : length ns ≡ cap) where
   -- the pair at i, and those behind it; none past the end
@@ -102,6 +119,14 @@ module _ (cap : ℕ) (bs ns : List ℕ) (h : length bs ≡ cap) (k : length ns �
       → pairs_from (c + e) (set bs c b) (set ns c n) ≡ pairs_from c bs ns ++ cond kept (pair_of b n ∷ []) []
   pairs_next true c b n l f = rw f (pairs_push c b n l)
   pairs_next false c b n l f = let z : c + 0 ≡ c = omega arith in rw (f, z) (pairs_behind c b n ∙ sym (append-nil (pairs_from c bs ns)))
+
+-- as many as are counted, and no more than there are places; none past the end
+pub pairs_count : (p : Pairs) → length p.blocks ≡ max_pairs → length p.numbers ≡ max_pairs → length (pairs_of p) ≡ min p.count max_pairs
+unfolding pairs_of
+pairs_count p h k = pairs_length max_pairs p.blocks p.numbers h k p.count
+
+pub none_past : (ps : List Pair) {n i : ℕ} → length ps ≡ n → n ≤ i → drop i ps ≡ []
+none_past ps {n} {i} h l = drop_of_length-le ps {i = i} (omega arith)
 
 -- the pairs that are missing, one at a time: those found so far, and those of the rest
 pub missing_on : (found next : List Pair) {ps rest : List Pair} {a : Pair} (qs : List Pair) {k : Bool} {whole : List Pair} → ps ≡ a ∷ rest

@@ -95,8 +95,8 @@ fn keep(
     requires { (seat < min count max_units) × (held ≡ held_by (collect pairs_in (others (seat_at (rows_of count entries) (suc seat)))) (pairs_of announced)) }
     ensures { Keeps (seat_at (rows_of count entries) (suc seat)) (pairs_of announced) result }
 {
-    let good = judge::judge(held, announced);
-    let kept = judge::good_pairs(announced, good);
+    let good = judge::judge(&held, &announced);
+    let kept = judge::good_pairs(&announced, &good);
     if kept.len() == announced.len() {
         return Kept {
             pairs: kept,

@@ -83,9 +83,8 @@ pub fn tell_ring_change<'a>(
         pass,
         Delta::Invalid,
         size,
-        blocks,
-        numbers,
-        listed,
+        &blocks[..listed.min(blocks.len())],
+        &numbers[..listed.min(numbers.len())],
     )
 }
 

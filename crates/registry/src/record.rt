@@ -43,8 +43,9 @@ impl RegistryImage {
         if out.len() < MIN_ROOM {
             return self.refuse(ORDER_ROOM_TOO_SHORT);
         }
-        let read = wire_events::decode(bytes);
-        let event = read.event;
+        let Some(event) = wire_events::decode(bytes) else {
+            return self.refuse(RECORD_MALFORMED);
+        };
         let state = self.state;
         let number = ring_refusals::refusal(state, event);
         if number != DONE {
@@ -57,7 +58,6 @@ impl RegistryImage {
             return self.refuse(late);
         }
         match event {
-            Event::Malformed => self.refuse(RECORD_MALFORMED),
             Event::Start(nodes) => self.start(out, nodes),
             Event::NetworkChange(nodes) => self.network_change(out, nodes),
             Event::Shutdown => self.shut_down(out),
@@ -65,9 +65,9 @@ impl RegistryImage {
                 pass: _,
                 position,
                 address,
+                pairs,
             } => {
                 let entries = self.entries;
-                let pairs = read.pairs;
                 let heard = hear::hear(self.units as usize, entries, seat, address, pairs);
                 let verdict = heard.verdict;
                 if verdict.conflicts() {

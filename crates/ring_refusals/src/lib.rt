@@ -48,11 +48,10 @@ fn row_of(state: RegistryState) -> usize
 
 // 2 for bytes that are no event, 3 or 4 by the table, or 0.
 pub fn refusal(state: RegistryState, event: Event) -> u8
-    ensures { result ≡ refusal_of (state_of state.0) (event_of event []) }
+    ensures { result ≡ refusal_of (state_of state.0) (some (event_of event)) }
 {
     let row = row_of(state);
     match event {
-        Event::Malformed => RECORD_MALFORMED,
         Event::Start(_) => REFUSALS[row][0],
         Event::NetworkChange(_) => REFUSALS[row][1],
         Event::Shutdown => REFUSALS[row][2],
@@ -60,6 +59,7 @@ pub fn refusal(state: RegistryState, event: Event) -> u8
             pass: _,
             position: _,
             address: _,
+            pairs: _,
         } => REFUSALS[row][3],
         Event::NoAnswer {
             pass: _,
@@ -85,10 +85,9 @@ fn place_of(position: NodePosition) -> usize
 
 // The place of the entry that an event speaks of; the first where it speaks of none.
 pub fn seat_of(event: Event) -> usize
-    ensures { (result ≡ seat_in (event_of event [])) × (result < max_units) }
+    ensures { (result ≡ seat_in (some (event_of event))) × (result < max_units) }
 {
     match event {
-        Event::Malformed => 0,
         Event::Start(_) => 0,
         Event::NetworkChange(_) => 0,
         Event::Shutdown => 0,
@@ -96,6 +95,7 @@ pub fn seat_of(event: Event) -> usize
             pass: _,
             position,
             address: _,
+            pairs: _,
         } => place_of(position),
         Event::NoAnswer { pass: _, position } => place_of(position),
         Event::DelayExpired { pass: _ } => 0,
@@ -163,10 +163,9 @@ pub fn reply_refusal(
     entry: NodeEntry,
     event: Event,
 ) -> u8
-    ensures { result ≡ reply_refusal (state_of state.0) current units (row_of entry) (event_of event []) }
+    ensures { result ≡ reply_refusal (state_of state.0) current units (row_of entry) (some (event_of event)) }
 {
     match event {
-        Event::Malformed => DONE,
         Event::Start(_) => DONE,
         Event::NetworkChange(_) => DONE,
         Event::Shutdown => DONE,
@@ -174,6 +173,7 @@ pub fn reply_refusal(
             pass,
             position,
             address: _,
+            pairs: _,
         } => or_else(
             seat_refusal(current, units, entry, pass, position),
             unasked(state, entry),

@@ -142,7 +142,7 @@ pub(crate) fn row_echo(
 pub(crate) fn typed(position: u8, address: u16, bytes: &[u8]) -> NodeRow {
     let all = smaller(bytes.len() / PAIR, MAX_PAIR_WORDS);
     let held = smaller(all, MAX_PAIRS);
-    let pairs = wire_events::read_pairs(&bytes[0..PAIR * held], 0, held);
+    let pairs = wire_events::read_pairs(&bytes[0..PAIR * held]);
     let mut entry = NodeEntry::keeping(LISTED, LogicalNodeAddress(address), pairs, 0, 0, 0);
     entry.count = all as u8;
     NodeRow {

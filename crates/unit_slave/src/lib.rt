@@ -105,7 +105,7 @@ impl NetworkSlave {
             unit: NetworkSlave::unread(
                 position,
                 address,
-                wire_events::read_pairs(pairs, 0, n / PAIR),
+                wire_events::read_pairs(pairs),
             ),
         }
     }

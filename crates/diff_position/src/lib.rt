@@ -56,10 +56,10 @@ fn write_pairs(
     at: usize,
     kind: LineKind,
     position: NodePosition,
-    pairs: Pairs,
+    pairs: &Pairs,
 ) -> usize
-    requires { at + length (collect (pair_line (number_of kind) position.0) (pairs_of pairs)) ≤ length out.old }
-    ensures { Wrote out.old at (collect (pair_line (number_of kind) position.0) (pairs_of pairs)) result out.new }
+    requires { at + length (collect (pair_line (number_of kind) position.0) (pairs_of pairs.now)) ≤ length out.old }
+    ensures { Wrote out.old at (collect (pair_line (number_of kind) position.0) (pairs_of pairs.now)) result out.new }
 {
     let mut end = at;
     for i in 0..pairs.len() {
@@ -115,6 +115,6 @@ pub fn write_position(
     let gone = diff_changes::gone(before, after);
     let new = diff_changes::new(before, after);
     let head = write_head(out, at, kind, position, address);
-    let end = write_pairs(out, head, LineKind::PairGone, position, gone);
-    write_pairs(out, end, LineKind::PairNew, position, new)
+    let end = write_pairs(out, head, LineKind::PairGone, position, &gone);
+    write_pairs(out, end, LineKind::PairNew, position, &new)
 }

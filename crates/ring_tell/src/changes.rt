@@ -40,7 +40,7 @@ pub(crate) fn write_change(
         result out.new }
 {
     let pairs = changes(delta, before, after);
-    write_delta(out, at, pass, delta, size, pairs)
+    write_delta(out, at, pass, delta, size, &pairs)
 }
 
 // INVALID or NEW for the first `count` entries: the pairs that an entry no longer keeps, or newly keeps, entries separately.

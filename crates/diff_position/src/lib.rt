@@ -91,7 +91,10 @@ fn write_head(
                 kind,
                 position,
                 address,
-                pair: Pair { block: 0, number: 0 },
+                pair: Pair {
+                    block: 0,
+                    number: 0,
+                },
             };
             write_line(out, at, line)
         }

@@ -7,7 +7,6 @@ ghost use Rattle.registry.specs.Outcome.{Does, HandedOut};
 use super::image::RegistryImage;
 use numbers::{DONE, ORDER_ROOM_TOO_SHORT, RECORD_MALFORMED};
 use ring_answer::hear;
-use row_renumber::renumber::Renumbering;
 use sizes::MIN_ROOM;
 use wire_address::LogicalNodeAddress;
 use wire_events::Event;
@@ -79,8 +78,7 @@ impl RegistryImage {
             }
             Event::NoAnswer { pass: _, position } => {
                 let next = entry.silenced();
-                let none = Renumbering::Finished;
-                self.reply(out, position, LogicalNodeAddress(0), next, none)
+                self.reply(out, position, LogicalNodeAddress(0), next, None)
             }
             Event::DelayExpired { pass } => self.delay_expired(out, pass),
         }

@@ -13,7 +13,7 @@ use super::asks::Which;
 use super::{asks, changes};
 use ring_state::RegistryState;
 use row_entry::NodeEntry;
-use row_renumber::renumber::Renumbering;
+use row_renumber::renumber::Offer;
 use sizes::MAX_UNITS;
 use wire_address::{LogicalNodeAddress, NodePosition};
 use wire_orders::Delta;
@@ -95,20 +95,26 @@ fn write_renumbering(
     pass: u32,
     position: NodePosition,
     address: LogicalNodeAddress,
-    step: Renumbering,
+    step: Option<Offer>,
 ) -> usize
     requires { at + length (encode_all pass (set_order position.0 address.0 (renumbering_of step))) ≤ length out.old }
     ensures { Wrote out.old at (encode_all pass (set_order position.0 address.0 (renumbering_of step))) result out.new }
 {
     match step {
-        Renumbering::Finished => at,
-        Renumbering::Renumbers {
-            place: _,
-            tries: _,
-            block,
-            old,
-            new,
-        } => wire_orders::write_set(out, at, pass, position, address, block, old, new),
+        None => at,
+        Some(offer) => {
+            let pair = offer.pair;
+            wire_orders::write_set(
+                out,
+                at,
+                pass,
+                position,
+                address,
+                pair.block,
+                pair.number,
+                offer.new,
+            )
+        }
     }
 }
 
@@ -122,7 +128,7 @@ pub fn tell_reply(
     after: NodeEntry,
     position: NodePosition,
     address: LogicalNodeAddress,
-    step: Renumbering,
+    step: Option<Offer>,
 ) -> usize
     requires { (3 ≤ size)
         × (length (encode_all pass (reply_told (state_of state.0) size (row_of before) (row_of after)

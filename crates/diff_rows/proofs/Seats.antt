@@ -2,13 +2,14 @@
 use Prim.Native.Nat.{◌-◌, ◌<◌, ◌≤◌}
 use mathlib.Core.Path.{◌≡◌, refl, sym, ◌∙◌, ap}
 use mathlib.Core.Bool.{Bool, true, false, not, ◌&&◌, ◌||◌}
-use mathlib.Core.List.{List, append-nil}
+use mathlib.Core.List.{List, append-nil, map}
 use native.Mathlib.Omega.{arith}
 use borrow.Author.Tests.{lt-ltb, le-ltb, le-leb, lt-leb, leb-true, leb-false}
 use lib.Dec.{leb, ltb}
 use lib.ListN.{length, length-append, length-replicate, replicate, set}
 use Rattle.laws.specs.Bools.{clash, and_left, and_right, and_true, or_true_left, or_true_right, cond_false}
-use Rattle.laws.specs.Views.{firsts, firsts_few, firsts_set}
+use Rattle.laws.specs.Views.{firsts_few}
+use Rattle.std.proofs.lemmas.List.{map-set}
 use Rattle.rules.specs.House.{max_nodes, max_units, max_pairs}
 use Rattle.rules.specs.Picture.{Pair}
 use Rattle.rules_diff.specs.Differences.{Seen, present, twice, is_bad}
@@ -87,5 +88,5 @@ unfolding gathering_of gathered node_row_of seen_in
 seated s r f k l =
     sym (cond_false _ _ f ∙ cond_false _ _ (lt-leb r.position.0 s.last l)
     ∙ ap (λ (l : List Seen). record { bad = s.bad; falling = s.falling; last = r.position.0; seats = l })
-    (ap (λ (ps : List Pair). set (firsts seen_in max_units s.seats) (r.position.0 - 1) (present r.entry.address.0 ps)) (counted_few r.entry k)
-    ∙ sym (firsts_set seen_in max_units (r.position.0 - 1) (Some r) s.seats)))
+    (ap (λ (ps : List Pair). set (map seen_in s.seats) (r.position.0 - 1) (present r.entry.address.0 ps)) (counted_few r.entry k)
+    ∙ sym (map-set seen_in s.seats (r.position.0 - 1) (Some r))))

@@ -24,8 +24,8 @@ pub struct Rows {
 }
 
 // A pair stands twice.
-fn twice(pairs: Pairs) -> bool
-    ensures { result ≡ twice (pairs_of pairs) }
+fn twice(pairs: &Pairs) -> bool
+    ensures { result ≡ twice (pairs_of pairs.now) }
 {
     for i in 0..pairs.len() {
         if pairs.holds_from(i + 1, pairs.at(i)) {
@@ -47,7 +47,7 @@ fn is_bad(row: NodeRow) -> bool
     ensures { (result ≡ is_bad (node_row_of row))
         × (result ≡ false → (1 ≤ row.position.0) × (row.position.0 ≤ max_units) × (row.entry.count ≤ max_pairs)) }
 {
-    !fits(row.position, row.entry.count) || twice(row.pairs())
+    !fits(row.position, row.entry.count) || twice(&row.pairs())
 }
 
 impl Rows {

@@ -53,9 +53,6 @@ pub record Left (before : List Bool) (whole : List ℕ) (now : List Bool) (rest 
   pub full : length now ≡ length before
   pub marked : (n : ℕ) → n < 256 → (is_marked now n || is_in rest n) ≡ (is_marked before n || is_in whole n)
 
-pub left_start : (t : List Bool) (xs : List ℕ) → Left t xs t xs
-left_start t xs = record { full = refl; marked = λ n h. refl }
-
 in_append : (xs ys : List ℕ) (n : ℕ) → is_in (xs ++ ys) n ≡ is_in xs n || is_in ys n
 unfolding is_in
 in_append xs ys n = any_append (eqb n) xs ys

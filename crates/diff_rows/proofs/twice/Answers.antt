@@ -1,8 +1,8 @@
 -- A search: what is left to look at decides.
 use mathlib.Core.Path.{sym, ◌∙◌}
 use native.Mathlib.Omega.{arith}
-use borrow.Author.Rules.{rules}
-use Rattle.wire_pairs.proofs.Arrays.{none_past}
+use lib.ListN.{drop_of_length-le}
+use Rattle.wire_pairs.specs.View.{pairs_of}
 use Rattle.diff_rows.proofs.Repeats.{twice_here, twice_skip, twice_end}
 use Rattle.diff_rows.proofs.twice.Goals as goal
 
@@ -16,4 +16,4 @@ loop-i-preserved c =
 
 pub returns : goal.returns
 returns c =
-    sym (sym c.loop-i.invariant ∙ twice_end (none_past c.args.pairs (search rules) (search rules) c.loop-i.i (omega (arith, c.len-i-end.ensures, c.loop-i-test.false))))
+    sym (sym c.loop-i.invariant ∙ twice_end (drop_of_length-le (pairs_of c.args.pairs.now) (omega (arith, c.len-i-end.ensures.1, c.loop-i-test.false))))

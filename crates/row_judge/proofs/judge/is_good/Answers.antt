@@ -22,6 +22,6 @@ unfolding is_good_marked pair_in pair_of
 returns-else-not-held c =
     let allowed : c.contains.result ≡ leb 1 c.args.pair.number && leb c.args.pair.number 254 = grind (arith, c.contains.ensures.value, c.new.ensures) in
     elim c.if-contains.branch [
-      | then-contains w ↦ grind (arith, allowed, w.if-contains, w.t-7-is, c.if-not-held.either)
-      | else-contains w ↦ grind (arith, allowed, w.if-contains, w.t-7-is, c.if-not-held.either)
+      | then-contains w ↦ grind (arith, allowed, w, c.if-not-held.either)
+      | else-contains w ↦ grind (arith, allowed, w, c.if-not-held.either)
     ]

@@ -16,7 +16,7 @@ ghost use Rattle.ring_answer.specs.Hearing.{Hears, Keeps, renumbering_by};
 
 use super::survey;
 use ring_entries::verdict::Verdict;
-use row_entry::{LISTED, NodeEntry, SETTING};
+use row_entry::NodeEntry;
 use row_judge::judge;
 use row_renumber::renumber;
 use row_renumber::renumber::Offer;
@@ -56,8 +56,8 @@ fn registered(address: LogicalNodeAddress, kept: Pairs, step: Option<Offer>, bad
         × Marked result }
 {
     match step {
-        None => NodeEntry::keeping(LISTED, address, kept, 0, 0, bad),
-        Some(offer) => NodeEntry::keeping(SETTING, address, kept, offer.place, offer.tries, bad),
+        None => NodeEntry::listed(address, &kept, bad),
+        Some(offer) => NodeEntry::setting(address, &kept, offer.place, offer.tries, bad),
     }
 }
 

@@ -158,12 +158,14 @@ pub pairs_count : (p : Pairs) → length p.blocks ≡ max_pairs → length p.num
 unfolding pairs_of
 pairs_count p h k = pairs_length max_pairs p.blocks p.numbers h k p.count
 
--- the pairs of a node, as two slices
-pub pairs_slices : (p : Pairs) (n : ℕ) → n ≤ p.count → length (pairs_of p) ≡ n → zip_pairs (take n p.blocks) (take n p.numbers) ≡ pairs_of p
-unfolding pairs_of pairs_from
-pairs_slices p n l h =
-    let ps = zip_pairs p.blocks p.numbers in
-    zip_first n p.blocks p.numbers ∙ sym (take_firsts (λ (a : Pair). a) n p.count ps l) ∙ take_all n (pairs_of p) (omega (arith, h))
+-- the pairs of a node, counted, and as two slices
+module _ (p : Pairs) (n : ℕ) (l : n ≤ p.count) (h : length (pairs_of p) ≡ n) where
+  pub pairs_cut : pairs_from n p.blocks p.numbers ≡ pairs_of p
+  unfolding pairs_of pairs_from
+  pairs_cut = sym (take_firsts (λ (a : Pair). a) n p.count (zip_pairs p.blocks p.numbers) l) ∙ take_all n (pairs_of p) (omega (arith, h))
+
+  pub pairs_slices : zip_pairs (take n p.blocks) (take n p.numbers) ≡ pairs_of p
+  pairs_slices = zip_first n p.blocks p.numbers ∙ pairs_cut
 
 pub none_past : (ps : List Pair) {n i : ℕ} → length ps ≡ n → n ≤ i → drop i ps ≡ []
 none_past ps {n} {i} h l = drop_of_length-le ps {i = i} (omega arith)

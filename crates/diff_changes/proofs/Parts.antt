@@ -1,41 +1,23 @@
 -- The lines of a position are its own, then the pairs gone, then the pairs new.
-use Prim.Native.Nat.{ℕ, ◌+◌}
+use Prim.Native.Nat.{ℕ, ◌+◌, ◌≤◌}
+use native.Mathlib.Nat.{not-suc-le-zero}
 use mathlib.Core.Path.{◌≡◌, refl, sym, ap}
+use mir.Val.{bool_byte}
+use Rattle.std.specs.Option.{is_some}
+use Rattle.std.specs.Prelude.{Option, None, Some}
+use Rattle.diff_changes.specs.declared.LineKind.{LineKind}
+use Rattle.diff_changes.specs.declared.LineKind.TheVariants as kinds
 use mathlib.Core.Bool.{Bool, true, false, cond, not}
 use mathlib.Core.List.{List, [], ◌∷◌, ◌++◌, map}
 use native.Mathlib.Omega.{arith}
 use lib.Dec.{eqb}
 use lib.ListN.{length, length-append, length-map}
 use Rattle.laws.specs.Lists.{any, select}
-use Rattle.laws.specs.Bools.{clash}
 use Rattle.laws.specs.Alls.{all_of, select_all}
 use Rattle.rules.specs.Picture.{Pair, holds}
 use Rattle.rules.specs.Ending.{missing}
 use Rattle.rules_diff.specs.Differences.{Seen, absent, present, position_new, address_changed, pair_gone, pair_new, address_lines, lines_at}
-use Rattle.row_node.specs.declared.NodeRow.{NodeRow}
-use Rattle.row_node.specs.View.{held_pairs}
-use Rattle.diff_rows.specs.Gathering.{seen_in}
-use Rattle.diff_changes.specs.Changes.{is_present, seen_pairs, seen_address, head_kind, head_lines, gone_in, new_in}
-
--- a seat that holds a row, and one that holds none
-module _ (r : NodeRow) where
-  pub seen_row : is_present (seen_in r) ≡ true → seen_in r ≡ present r.entry.address.0 (held_pairs r.entry)
-  unfolding seen_in is_present
-  seen_row h = go (eqb r.position.0 0) h
-    where
-      go : (b : Bool) → is_present (cond b absent (present r.entry.address.0 (held_pairs r.entry))) ≡ true
-          → cond b absent (present r.entry.address.0 (held_pairs r.entry)) ≡ present r.entry.address.0 (held_pairs r.entry)
-      go true h = clash h refl
-      go false h = refl
-
-  pub seen_none : is_present (seen_in r) ≡ false → seen_in r ≡ absent
-  unfolding seen_in is_present
-  seen_none h = go (eqb r.position.0 0) h
-    where
-      go : (b : Bool) → is_present (cond b absent (present r.entry.address.0 (held_pairs r.entry))) ≡ false
-          → cond b absent (present r.entry.address.0 (held_pairs r.entry)) ≡ absent
-      go true h = refl
-      go false h = clash refl h
+use Rattle.diff_changes.specs.Changes.{number_of, told, seen_pairs, seen_address, head_kind, head_lines, gone_in, new_in}
 
 -- nothing is missing from none, and everything in none
 missing_none : (ps : List Pair) → missing ps [] ≡ ps
@@ -74,7 +56,7 @@ module _ (s t : Seen) where
       let e = length-map (new_in s t) (pair_new 0) in
       omega arith
 
-  pub without_own : head_kind s t ≡ 0 → length (lines_at 0 s t) ≡ length (gone_in s t) + length (new_in s t)
+  without_own : head_kind s t ≡ 0 → length (lines_at 0 s t) ≡ length (gone_in s t) + length (new_in s t)
   unfolding own head_lines
   without_own h = let e = ap (λ (k : ℕ). length (head_lines k 0 (seen_address t))) h in omega (arith, all_lines, e)
 
@@ -89,5 +71,20 @@ one_line (present a ps) (present b qs) h = go (eqb a b) h
     go true h = absurd (h refl)
     go false h = refl
 
-pub with_own : (s t : Seen) → (head_kind s t ≡ 0 → ⊥) → length (lines_at 0 s t) ≡ length (gone_in s t) + length (new_in s t) + 1
+with_own : (s t : Seen) → (head_kind s t ≡ 0 → ⊥) → length (lines_at 0 s t) ≡ length (gone_in s t) + length (new_in s t) + 1
 with_own s t h = omega (arith, all_lines s t, one_line s t h)
+
+-- a kind has a number
+numbered : (k : LineKind) → 1 ≤ number_of k
+numbered kinds.PositionGone = omega arith
+numbered kinds.PositionNew = omega arith
+numbered kinds.AddressChanged = omega arith
+numbered kinds.PairGone = omega arith
+numbered kinds.PairNew = omega arith
+
+-- how many lines there are, by the kind that the code finds
+pub all_told : (o : Option LineKind) (s t : Seen) → told o ≡ head_kind s t
+    → (length (lines_at 0 s t) ≡ bool_byte (is_some o) + length (gone_in s t) + length (new_in s t)) × (bool_byte (is_some o) ≤ 1)
+all_told None s t e = (omega (arith, without_own s t (sym e)), omega arith)
+all_told (Some k) s t e =
+    (omega (arith, with_own s t (λ h. let z : 1 ≤ 0 = omega (arith, numbered k, e, h) in not-suc-le-zero z)), omega arith)

@@ -1,12 +1,22 @@
 -- What has changed at a position: the line of the position itself, the pairs gone and the pairs new.
-use Rattle.std.specs.Prelude.{ℕ, Bool, true, false, cond, List, [], ◌∷◌, eqb}
+use Rattle.std.specs.Prelude.{ℕ, cond, List, [], ◌∷◌, eqb, Option, None, Some}
 use Rattle.rules.specs.Picture.{Pair}
 use Rattle.rules.specs.Ending.{missing}
 use Rattle.rules_diff.specs.Differences.{Seen, absent, present, Line, position_gone, position_new, address_changed}
+use Rattle.diff_changes.specs.declared.LineKind.{LineKind}
+use Rattle.diff_changes.specs.declared.LineKind.TheVariants as kinds
 
-unfoldable pub is_present : Seen → Bool
-is_present absent = false
-is_present (present a ps) = true
+-- the number of a kind of line, and 0 for none
+abbrev pub number_of : LineKind → ℕ
+number_of kinds.PositionGone = 1
+number_of kinds.PositionNew = 2
+number_of kinds.AddressChanged = 3
+number_of kinds.PairGone = 4
+number_of kinds.PairNew = 5
+
+abbrev pub told : Option LineKind → ℕ
+told None = 0
+told (Some k) = number_of k
 
 unfoldable pub seen_pairs : Seen → List Pair
 seen_pairs absent = []

@@ -6,15 +6,13 @@ ghost use Rattle.rules.specs.House.{max_lines_each};
 ghost use Rattle.rules_diff.specs.Differences.{lines_at};
 ghost use Rattle.wire_pairs.specs.View.{pairs_of};
 ghost use Rattle.diff_rows.specs.Gathering.{seen_in};
-ghost use Rattle.diff_changes.specs.Changes.{is_present, head_kind, seen_pairs, seen_address, gone_in, new_in};
+ghost use Rattle.diff_changes.specs.Changes.{number_of, told, head_kind, seen_pairs, seen_address, gone_in, new_in};
 
 use row_node::NodeRow;
 use wire_address::LogicalNodeAddress;
 use wire_pairs::Pairs;
 
-// The kinds of lines; a position whose address stays has none of the first three.
-pub const NO_LINE: u8 = 0;
-
+// The numbers of the kinds of lines.
 pub const POSITION_GONE: u8 = 1;
 
 pub const POSITION_NEW: u8 = 2;
@@ -25,84 +23,90 @@ pub const PAIR_GONE: u8 = 4;
 
 pub const PAIR_NEW: u8 = 5;
 
-// The seat holds a row: where it holds none its position is 0.
-fn is_seated(row: NodeRow) -> bool
-    ensures { result ≡ is_present (seen_in row) }
-{
-    let position = row.position;
-    if position.0 == 0 {
-        return false;
-    }
-    true
+// What a line tells. The first three are of the position itself; a position whose address stays has none of them.
+#[derive(Clone, Copy, PartialEq, Eq)]
+pub enum LineKind {
+    PositionGone,
+    PositionNew,
+    AddressChanged,
+    PairGone,
+    PairNew,
 }
 
-// The pairs in a seat.
-fn seen_pairs(row: NodeRow) -> Pairs
-    ensures { pairs_of result ≡ seen_pairs (seen_in row) }
-{
-    if is_seated(row) {
-        return row.pairs();
+impl LineKind {
+    // The number that a line begins with.
+    pub fn number(self) -> u8
+        ensures { result ≡ number_of self }
+    {
+        match self {
+            LineKind::PositionGone => POSITION_GONE,
+            LineKind::PositionNew => POSITION_NEW,
+            LineKind::AddressChanged => ADDRESS_CHANGED,
+            LineKind::PairGone => PAIR_GONE,
+            LineKind::PairNew => PAIR_NEW,
+        }
     }
-    Pairs::none()
+}
+
+// The pairs in a seat: none where there is no row.
+#[tactic(auto, unfolding(diff_rows::specs::Gathering::seen_in, crate::specs::Changes::seen_pairs))]
+fn seen_pairs(seat: &Option<NodeRow>) -> Pairs
+    ensures { pairs_of result ≡ seen_pairs (seen_in seat.now) }
+{
+    match seat {
+        Some(row) => row.pairs(),
+        None => Pairs::none(),
+    }
 }
 
 // The address in a seat; 0 where there is no row.
-pub fn seen_address(row: NodeRow) -> LogicalNodeAddress
-    ensures { result.0 ≡ seen_address (seen_in row) }
+#[tactic(auto, unfolding(diff_rows::specs::Gathering::seen_in, crate::specs::Changes::seen_address))]
+pub fn seen_address(seat: &Option<NodeRow>) -> LogicalNodeAddress
+    ensures { result.0 ≡ seen_address (seen_in seat.now) }
 {
-    if is_seated(row) {
-        let entry = row.entry;
-        return entry.address;
+    match seat {
+        Some(row) => row.entry.address,
+        None => LogicalNodeAddress(0),
     }
-    LogicalNodeAddress(0)
 }
 
 // What is told of the position itself: the kind of its line, if it has one.
-pub fn head_kind(before: NodeRow, after: NodeRow) -> u8
-    ensures { result ≡ head_kind (seen_in before) (seen_in after) }
+#[tactic(auto, unfolding(diff_rows::specs::Gathering::seen_in, crate::specs::Changes::head_kind))]
+pub fn head_kind(before: &Option<NodeRow>, after: &Option<NodeRow>) -> Option<LineKind>
+    ensures { told result ≡ head_kind (seen_in before.now) (seen_in after.now) }
 {
-    if is_seated(before) {
-        if is_seated(after) {
-            let stood = before.entry;
-            let stands = after.entry;
-            let address = stood.address;
-            if address.same(stands.address) {
-                return NO_LINE;
-            }
-            return ADDRESS_CHANGED;
-        }
-        return POSITION_GONE;
+    match (before, after) {
+        (Some(stood), Some(stands)) if stood.entry.address == stands.entry.address => None,
+        (Some(_), Some(_)) => Some(LineKind::AddressChanged),
+        (Some(_), None) => Some(LineKind::PositionGone),
+        (None, Some(_)) => Some(LineKind::PositionNew),
+        (None, None) => None,
     }
-    if is_seated(after) {
-        return POSITION_NEW;
-    }
-    NO_LINE
 }
 
 // The pairs that are told as gone: none of a position that is gone itself.
-pub fn gone(before: NodeRow, after: NodeRow) -> Pairs
-    ensures { pairs_of result ≡ gone_in (seen_in before) (seen_in after) }
+#[tactic(auto, unfolding(diff_rows::specs::Gathering::seen_in, crate::specs::Changes::gone_in))]
+pub fn gone(before: &Option<NodeRow>, after: &Option<NodeRow>) -> Pairs
+    ensures { pairs_of result ≡ gone_in (seen_in before.now) (seen_in after.now) }
 {
-    if is_seated(after) {
-        return seen_pairs(before).missing(seen_pairs(after));
+    match after {
+        Some(row) => seen_pairs(before).missing(&row.pairs()),
+        None => Pairs::none(),
     }
-    Pairs::none()
 }
 
 // The pairs that are told as new.
-pub fn new(before: NodeRow, after: NodeRow) -> Pairs
-    ensures { pairs_of result ≡ new_in (seen_in before) (seen_in after) }
+#[tactic(auto, unfolding(crate::specs::Changes::new_in))]
+pub fn new(before: &Option<NodeRow>, after: &Option<NodeRow>) -> Pairs
+    ensures { pairs_of result ≡ new_in (seen_in before.now) (seen_in after.now) }
 {
-    seen_pairs(after).missing(seen_pairs(before))
+    seen_pairs(after).missing(&seen_pairs(before))
 }
 
 // How many lines the position has.
-pub fn count(before: NodeRow, after: NodeRow) -> usize
-    ensures { (result ≡ length (lines_at 0 (seen_in before) (seen_in after))) × (result ≤ max_lines_each) }
+pub fn count(before: &Option<NodeRow>, after: &Option<NodeRow>) -> usize
+    ensures { (result ≡ length (lines_at 0 (seen_in before.now) (seen_in after.now))) × (result ≤ max_lines_each) }
 {
-    let pairs = gone(before, after).len() + new(before, after).len();
-    if head_kind(before, after) == NO_LINE {
-        return pairs;
-    }
-    pairs + 1
+    let own = usize::from(head_kind(before, after).is_some());
+    own + gone(before, after).len() + new(before, after).len()
 }

@@ -10,13 +10,12 @@ use Rattle.laws.specs.Bools.{cond_true, cond_false}
 use Rattle.laws.specs.Buffers.{Wrote}
 use Rattle.rules_diff.specs.Differences.{Line, lines_bytes, Compared, uncompared, differ, fitted, compared_number, compared_bytes, compared_lent}
 use Rattle.diff_rows.specs.Gathering.{Gathering}
-use Rattle.diff_lines.specs.declared.CompareOutcome.{CompareOutcome}
 use Rattle.diff_lines.specs.Comparing.{lines_over, compared_by, Compares}
 
-pub refuses : {c : Compared} {n : ℕ} (b : List ℕ) (r : CompareOutcome) → c ≡ uncompared n → r.number ≡ n → r.length ≡ 0 → Compares c b r b
+pub refuses : {c : Compared} {n : ℕ} (b : List ℕ) → c ≡ uncompared n → Compares c b (record { number = n; length = 0 }) b
 unfolding compared_number compared_bytes compared_lent
-refuses {c} {n} b r e f g =
-    subst (λ (d : Compared). Compares d b r b) (sym e) (record { number = f; long = g; buffer = refl })
+refuses {c} {n} b e =
+    subst (λ (d : Compared). Compares d b (record { number = n; length = 0 }) b) (sym e) (record { number = refl; long = refl; buffer = refl })
 
 pub tells : {c : Compared} {ls : List Line} {b after : List ℕ} {n : ℕ} → c ≡ differ ls → Wrote b 0 (lines_bytes ls) n after
     → Compares c b (record { number = 0; length = n }) after

@@ -1,29 +1,21 @@
 -- The lines of all positions, one position at a time.
-use Prim.Native.Nat.{ℕ, ◌+◌, ◌≤◌, ◌<◌}
+use Prim.Native.Nat.{ℕ, suc, ◌+◌, ◌≤◌}
 use mathlib.Core.Path.{◌≡◌, refl, sym, ◌∙◌, ap}
 use mathlib.Core.Bool.{Bool, true, false, cond}
 use mathlib.Core.List.{List, [], ◌∷◌, ◌++◌, map}
 use native.Mathlib.Omega.{arith}
 use native.Mathlib.Numerals.{add-one}
 use lib.Dec.{eqb}
-use lib.ListN.{length, length-append, length-map, get_or, drop}
+use lib.ListN.{length, length-append, length-map}
 use Rattle.laws.specs.Lists.{collect}
 use Rattle.laws.specs.Alls.{collect_append}
-use Rattle.laws.specs.Views.{firsts_here, firsts_past}
-use Rattle.rules.specs.House.{max_units}
+use mathlib.Core.Logic.{◌⊎◌, inl, inr}
 use Rattle.rules.specs.Ending.{missing}
 use Rattle.rules_diff.specs.Differences.{Seen, absent, present, Line, address_changed, pair_gone, pair_new, address_lines, lines_at, line_bytes, lines_bytes}
 use Rattle.row_node.specs.declared.NodeRow.{NodeRow}
+use Rattle.std.specs.Prelude.{Option}
 use Rattle.diff_rows.specs.Gathering.{seen_in}
 use Rattle.diff_lines.specs.Comparing.{seen, lines_over}
-
--- what a read behind the end of an array of rows gives
-abbrev pub behind : NodeRow
-behind =
-    record {
-      position = record { 0 = 0 };
-      entry = record { address = record { 0 = 0 }; status = record { 0 = 0 }; bad = 0; silences = 0; place = 0; tries = 0; count = 0; blocks = []; numbers = [] };
-    }
 
 -- as many lines at every position
 pub same_many : (x y : ℕ) (s t : Seen) → length (lines_at x s t) ≡ length (lines_at y s t)
@@ -47,38 +39,56 @@ same_many x y (present a ps) (present b qs) = go (eqb a b)
     go true = many x true ∙ sym (many y true)
     go false = many x false ∙ sym (many y false)
 
--- the lines from a position on: those of the one at hand and those behind it, and none
-pub over_on : (x : ℕ) {ss ts before after : List Seen} {s t : Seen} → ss ≡ s ∷ before → ts ≡ t ∷ after
-    → lines_over x ss ts ≡ lines_at x s t ++ lines_over (x + 1) before after
-unfolding lines_over
+-- the lines of two lists of seats from a position on: those of the one at hand and those behind it, and none where one of them ends
+pub over_on : (x : ℕ) {ss ts before after : List (Option NodeRow)} {s t : Option NodeRow} → ss ≡ s ∷ before → ts ≡ t ∷ after
+    → lines_over x (seen ss) (seen ts) ≡ lines_at x (seen_in s) (seen_in t) ++ lines_over (x + 1) (seen before) (seen after)
+unfolding lines_over seen
 over_on x {before = before} {after = after} {s = s} {t = t} e f =
-    (λ i. lines_over x (e i) (f i)) ∙ ap (λ (y : ℕ). lines_at x s t ++ lines_over y before after) (sym (add-one x))
+    (λ i. lines_over x (seen (e i)) (seen (f i)))
+    ∙ ap (λ (y : ℕ). lines_at x (seen_in s) (seen_in t) ++ lines_over y (seen before) (seen after)) (sym (add-one x))
 
-pub over_end : (x : ℕ) {ss : List Seen} (ts : List Seen) → ss ≡ [] → lines_over x ss ts ≡ []
+pub over_end : (x : ℕ) {ss ts : List (Option NodeRow)} → (ss ≡ []) ⊎ (ts ≡ []) → lines_over x (seen ss) (seen ts) ≡ []
+unfolding lines_over seen
+over_end x {ts = ts} (inl e) = ap (λ (l : List (Option NodeRow)). lines_over x (seen l) (seen ts)) e
+over_end x {ss} (inr f) = ap (λ (l : List (Option NodeRow)). lines_over x (seen ss) (seen l)) f ∙ ended (seen ss)
+  where
+    ended : (l : List Seen) → lines_over x l [] ≡ []
+    ended [] = refl
+    ended (s ∷ l) = refl
+
+-- as many lines from every position on
+pub over_many : (x y : ℕ) (ss ts : List Seen) → length (lines_over x ss ts) ≡ length (lines_over y ss ts)
 unfolding lines_over
-over_end x ts e = ap (λ (l : List Seen). lines_over x l ts) e
+over_many x y [] ts = refl
+over_many x y (s ∷ ss) [] = refl
+over_many x y (s ∷ ss) (t ∷ ts) =
+    let a = length-append (lines_at x s t) (lines_over (suc x) ss ts) in
+    let b = length-append (lines_at y s t) (lines_over (suc y) ss ts) in
+    omega (arith, a, b, same_many x y s t, over_many (suc x) (suc y) ss ts)
 
--- one turn of a loop over the seats
-module _ (before after : List NodeRow) (h : length before ≡ max_units) (k : length after ≡ max_units) where
-  pub turn : (i : ℕ) → i < max_units
-      → lines_over (i + 1) (drop i (seen before)) (drop i (seen after))
-      ≡ lines_at (i + 1) (seen_in (get_or before i behind)) (seen_in (get_or after i behind)) ++ lines_over (i + 1 + 1) (drop (i + 1) (seen before)) (drop (i + 1) (seen after))
-  unfolding seen
-  turn i l = over_on (i + 1) (firsts_here seen_in max_units i behind before l (omega arith)) (firsts_here seen_in max_units i behind after l (omega arith))
-
-pub over : (before after : List NodeRow) (i : ℕ) → max_units ≤ i → lines_over (i + 1) (drop i (seen before)) (drop i (seen after)) ≡ []
-unfolding seen
-over before after i l = over_end (i + 1) _ (firsts_past seen_in max_units i before l)
+-- one turn of a count, and its end
+pub count_on : (n : ℕ) {m : ℕ} {ss ts before after : List (Option NodeRow)} {s t : Option NodeRow} {whole : ℕ} → ss ≡ s ∷ before → ts ≡ t ∷ after
+    → m ≡ length (lines_at 0 (seen_in s) (seen_in t)) → n + length (lines_over 1 (seen ss) (seen ts)) ≡ whole
+    → n + m + length (lines_over 1 (seen before) (seen after)) ≡ whole
+count_on n {before = before} {after = after} {s = s} {t = t} e f g h =
+    let a = ap length (over_on 1 e f) in
+    let b = length-append (lines_at 1 (seen_in s) (seen_in t)) (lines_over 2 (seen before) (seen after)) in
+    omega (arith, a, b, same_many 1 0 (seen_in s) (seen_in t), over_many 2 1 (seen before) (seen after), g, h)
 
 -- the same of their bytes
-module _ (before after : List NodeRow) (h : length before ≡ max_units) (k : length after ≡ max_units) where
-  pub turn_bytes : (i : ℕ) → i < max_units
-      → lines_bytes (lines_over (i + 1) (drop i (seen before)) (drop i (seen after)))
-      ≡ lines_bytes (lines_at (i + 1) (seen_in (get_or before i behind)) (seen_in (get_or after i behind)))
-      ++ lines_bytes (lines_over (i + 1 + 1) (drop (i + 1) (seen before)) (drop (i + 1) (seen after)))
-  unfolding lines_bytes
-  turn_bytes i l = ap lines_bytes (turn before after h k i l) ∙ collect_append line_bytes _ _
+pub bytes_on : {x p y : ℕ} {ss ts before after : List (Option NodeRow)} {s t : Option NodeRow} → p ≡ x → y ≡ x + 1 → ss ≡ s ∷ before → ts ≡ t ∷ after
+    → lines_bytes (lines_over x (seen ss) (seen ts)) ≡ lines_bytes (lines_at p (seen_in s) (seen_in t)) ++ lines_bytes (lines_over y (seen before) (seen after))
+unfolding lines_bytes
+bytes_on {x} {before = before} {after = after} {s = s} {t = t} g h e f =
+    ap lines_bytes (over_on x e f) ∙ collect_append line_bytes _ _
+    ∙ (λ i. lines_bytes (lines_at (sym g i) (seen_in s) (seen_in t)) ++ lines_bytes (lines_over (sym h i) (seen before) (seen after)))
 
-pub over_bytes : (before after : List NodeRow) (i : ℕ) → max_units ≤ i → lines_bytes (lines_over (i + 1) (drop i (seen before)) (drop i (seen after))) ≡ []
+pub bytes_long : {x p : ℕ} {ss ts before after : List (Option NodeRow)} {s t : Option NodeRow} → p ≡ x → ss ≡ s ∷ before → ts ≡ t ∷ after
+    → length (lines_bytes (lines_at p (seen_in s) (seen_in t))) ≤ length (lines_bytes (lines_over x (seen ss) (seen ts)))
+bytes_long {x} {p} {before = before} {after = after} {s = s} {t = t} g e f =
+    let a = ap length (bytes_on {y = x + 1} g refl e f) in
+    omega (arith, a, length-append (lines_bytes (lines_at p (seen_in s) (seen_in t))) (lines_bytes (lines_over (x + 1) (seen before) (seen after))))
+
+pub bytes_end : (x : ℕ) {ss ts : List (Option NodeRow)} → (ss ≡ []) ⊎ (ts ≡ []) → lines_bytes (lines_over x (seen ss) (seen ts)) ≡ []
 unfolding lines_bytes collect
-over_bytes before after i l = ap lines_bytes (over before after i l)
+bytes_end x e = ap lines_bytes (over_end x e)

@@ -5,45 +5,59 @@ use mathlib.Core.Bool.{Bool, true, false, cond}
 use mathlib.Core.List.{List, [], ◌∷◌, ◌++◌, map}
 use native.Mathlib.Numerals.{towards_suc}
 use native.Mathlib.Omega.{arith}
-use borrow.Author.Tests.{eq-eqb, ne_eqb}
 use lib.Dec.{eqb}
 use lib.ListN.{length, length-append, set}
 use lib.Seq.{sets}
 use Rattle.laws.specs.Buffers.{Wrote}
 use Rattle.laws.specs.Lists.{collect}
-use Rattle.laws.specs.Bools.{cond_true, cond_false}
 use Rattle.laws.specs.Alls.{collect_append}
 use Rattle.rules.specs.House.{line_size}
 use Rattle.rules.specs.Picture.{Pair}
 use Rattle.rules.specs.Event.{two}
-use Rattle.rules_diff.specs.Differences.{Seen, absent, present, Line, pair_gone, pair_new, lines_at, bytes_of, line_bytes, lines_bytes}
-use Rattle.wire_pairs.specs.View.{pair_of}
-use Rattle.diff_changes.specs.Changes.{seen_address, head_kind, head_lines, gone_in, new_in}
+use Rattle.rules_diff.specs.Differences as rules
+use Rattle.rules_diff.specs.Differences.{Seen, absent, present, pair_gone, pair_new, lines_at, bytes_of, line_bytes, lines_bytes}
+use Rattle.std.specs.Prelude.{Option, None, Some}
+use Rattle.wire_pairs.specs.View.{pair_of, pair_in}
+use Rattle.diff_changes.specs.declared.LineKind.{LineKind}
+use Rattle.diff_changes.specs.declared.LineKind.TheVariants as kinds
+use Rattle.diff_changes.specs.Changes.{number_of, told, seen_address, head_kind, head_lines, gone_in, new_in}
 use Rattle.diff_changes.proofs.Parts.{in_parts}
-use Rattle.diff_position.specs.Lines.{head_line, pair_line}
+use Rattle.diff_position.specs.Lines.{line_in, head_line, pair_line}
+use Rattle.diff_position.specs.declared.Line.{Line}
 
 -- one line, by two stores, a writer and two stores
-pub wrote_line : {c : List ℕ} (b : List ℕ) (at k x a g n : ℕ) → c ≡ sets (set (set b (at + 0) k) (at + 1) x) (at + 2) (two a)
-    → Wrote b at (bytes_of k x a g n) (at + line_size) (set (set c (at + 4) g) (at + 5) n)
-unfolding bytes_of two
-wrote_line b at k x a g n e = let z : at + 0 ≡ at = omega arith in record { buffer = rw (e, z) (simp towards_suc); place = refl }
+pub wrote_line : {c : List ℕ} (b : List ℕ) (at : ℕ) (l : Line) {k : ℕ} → k ≡ number_of l.kind
+    → c ≡ sets (set (set b (at + 0) k) (at + 1) l.position.0) (at + 2) (two l.address.0)
+    → Wrote b at (line_in l) (at + line_size) (set (set c (at + 4) l.pair.block) (at + 5) l.pair.number)
+unfolding line_in bytes_of two
+wrote_line b at l h e = let z : at + 0 ≡ at = omega arith in record { buffer = rw (e, z, h) (simp towards_suc); place = refl }
 
--- how long lines are
-pub line_length : (k x a g n : ℕ) → length (bytes_of k x a g n) ≡ line_size
-unfolding bytes_of two
-line_length k x a g n = refl
+-- how long a line is
+pub line_length : (l : Line) → length (line_in l) ≡ line_size
+unfolding line_in bytes_of two
+line_length l = refl
 
 -- a line of its own, or none
-pub head_line_none : (k x a : ℕ) → k ≡ 0 → head_line k x a ≡ []
+pub head_none : {o : Option LineKind} (x a : ℕ) → o ≡ None → head_line (told o) x a ≡ []
 unfolding head_line
-head_line_none k x a h = cond_true [] (bytes_of k x a 0 0) (eq-eqb k 0 h)
+head_none x a e = ap (λ (o : Option LineKind). head_line (told o) x a) e
 
-pub head_line_some : (k x a : ℕ) → (k ≡ 0 → ⊥) → head_line k x a ≡ bytes_of k x a 0 0
-unfolding head_line
-head_line_some k x a h = cond_false [] (bytes_of k x a 0 0) (ne_eqb k 0 h)
+pub head_some : {o : Option LineKind} (l : Line) → o ≡ Some l.kind → l.pair.block ≡ 0 → l.pair.number ≡ 0
+    → head_line (told o) l.position.0 l.address.0 ≡ line_in l
+unfolding head_line line_in
+head_some l e b n =
+    ap (λ (o : Option LineKind). head_line (told o) l.position.0 l.address.0) e ∙ go l.kind
+    ∙ (λ i. bytes_of (number_of l.kind) l.position.0 l.address.0 (sym b i) (sym n i))
+  where
+    go : (k : LineKind) → head_line (number_of k) l.position.0 l.address.0 ≡ bytes_of (number_of k) l.position.0 l.address.0 0 0
+    go kinds.PositionGone = refl
+    go kinds.PositionNew = refl
+    go kinds.AddressChanged = refl
+    go kinds.PairGone = refl
+    go kinds.PairNew = refl
 
 -- the bytes of lines one behind the other
-bytes_append : (ls ms : List Line) → lines_bytes (ls ++ ms) ≡ lines_bytes ls ++ lines_bytes ms
+bytes_append : (ls ms : List rules.Line) → lines_bytes (ls ++ ms) ≡ lines_bytes ls ++ lines_bytes ms
 unfolding lines_bytes
 bytes_append ls ms = collect_append line_bytes ls ms
 
@@ -81,9 +95,12 @@ bytes_in_parts x s t =
     ∙ (λ i. (bytes_append h g ∙ (λ j. head_bytes x s t j ++ gone_bytes x (gone_in s t) j)) i ++ new_bytes x (new_in s t) i)
 
 -- the lines of the pairs from a place on: the one at hand and those behind it, and none
-pub lines_on : (k x b n : ℕ) {ps rest : List Pair} → ps ≡ pair_of b n ∷ rest → collect (pair_line k x) ps ≡ bytes_of k x 0 b n ++ collect (pair_line k x) rest
-unfolding collect pair_line pair_of
-lines_on k x b n e = ap (collect (pair_line k x)) e
+pub lines_on : (l : Line) {ps rest : List Pair} → l.address.0 ≡ 0 → ps ≡ pair_in l.pair ∷ rest
+    → collect (pair_line (number_of l.kind) l.position.0) ps ≡ line_in l ++ collect (pair_line (number_of l.kind) l.position.0) rest
+unfolding collect pair_line pair_in pair_of line_in
+lines_on l {rest = rest} z e =
+    ap (collect (pair_line (number_of l.kind) l.position.0)) e
+    ∙ ap (λ (a : ℕ). bytes_of (number_of l.kind) l.position.0 a l.pair.block l.pair.number ++ collect (pair_line (number_of l.kind) l.position.0) rest) (sym z)
 
 pub lines_end : (k x : ℕ) {ps : List Pair} → ps ≡ [] → collect (pair_line k x) ps ≡ []
 unfolding collect

@@ -1,6 +1,5 @@
 -- What is gathered of a list of rows, one row at a time.
-use Rattle.std.specs.Prelude.{ℕ, ◌-◌, Bool, true, false, cond, List, [], ◌∷◌, eqb, leb, set, replicate}
-use Rattle.laws.specs.Views.{firsts}
+use Rattle.std.specs.Prelude.{ℕ, ◌-◌, Bool, true, false, cond, List, [], ◌∷◌, map, leb, set, replicate, Option, None, Some}
 use Rattle.rules.specs.House.{max_units}
 use Rattle.rules_diff.specs.Differences.{NodeRow, Seen, absent, present, is_bad}
 use Rattle.row_node.specs.declared.NodeRow as code
@@ -29,9 +28,10 @@ unfoldable pub gathered_all : Gathering → List NodeRow → Gathering
 gathered_all g [] = g
 gathered_all g (r ∷ rs) = gathered_all (gathered g r) rs
 
--- what the code's values stand for; a row with position 0 is none
-unfoldable pub seen_in : code.NodeRow → Seen
-seen_in r = cond (eqb r.position.0 0) absent (present r.entry.address.0 (held_pairs r.entry))
+-- what the code's values stand for
+unfoldable pub seen_in : Option code.NodeRow → Seen
+seen_in None = absent
+seen_in (Some r) = present r.entry.address.0 (held_pairs r.entry)
 
 unfoldable pub gathering_of : Rows → Gathering
-gathering_of r = record { bad = r.bad; falling = r.falling; last = r.last; seats = firsts seen_in max_units r.seats }
+gathering_of r = record { bad = r.bad; falling = r.falling; last = r.last; seats = map seen_in r.seats }

@@ -1,7 +1,7 @@
 // Rows of a listing gathered one at a time: what stands at each position, and what is wrong so far.
 #![tactic(auto)]
 
-ghost use Rattle.std.specs.Prelude.{◌≡◌, false, ◌≤◌};
+ghost use Rattle.std.specs.Prelude.{◌≡◌, false, ◌≤◌, ◌&&◌, leb};
 ghost use Rattle.rules.specs.House.{max_units, max_pairs};
 ghost use Rattle.rules_diff.specs.Differences.{twice, is_bad};
 ghost use Rattle.wire_pairs.specs.View.{pairs_of};
@@ -10,51 +10,44 @@ ghost use Rattle.diff_rows.specs.Gathering.{gathering_of, nothing_seen, gathered
 
 use row_node::NodeRow;
 use sizes::{MAX_PAIRS, MAX_UNITS};
+use wire_address::NodePosition;
 use wire_pairs::Pairs;
 
-// What a list of rows has at each position: position p has seats[p - 1], with position 0 where there is no row. A bad row came; the
-// positions did not rise; the last position that a row was seated at.
-#[repr(C)]
+// What a list of rows has at each position: position p has seats[p - 1]. A bad row came; the positions did not rise; the last position that
+// a row was seated at, 0 before the first.
 #[derive(Clone, Copy)]
 pub struct Rows {
-    pub seats: [NodeRow; MAX_UNITS],
+    pub seats: [Option<NodeRow>; MAX_UNITS],
     pub last: u8,
     pub bad: bool,
     pub falling: bool,
 }
 
 // A pair stands twice.
-fn twice(pairs: Pairs) -> bool
-    ensures { result ≡ twice (pairs_of pairs) }
+fn twice(pairs: &Pairs) -> bool
+    ensures { result ≡ twice (pairs_of pairs.now) }
 {
-    let n = pairs.len();
-    let mut i = 0;
-    while i < n {
-        if pairs.holds_from(i + 1, pairs.blocks[i], pairs.numbers[i]) {
+    for i in 0..pairs.len() {
+        if pairs.holds_from(i + 1, pairs.at(i)) {
             return true;
         }
-        i += 1;
     }
     false
 }
 
-// The row is one that no listing has: its position is outside 1 to 63, it has more than 24 pairs, or a pair twice.
+// A row has a position from 1 to 63, and no more than 24 pairs.
+fn fits(position: NodePosition, count: u8) -> bool
+    ensures { result ≡ leb 1 position.0 && leb position.0 max_units && leb count max_pairs }
+{
+    1 <= position.0 && position.0 as usize <= MAX_UNITS && count as usize <= MAX_PAIRS
+}
+
+// The row is one that no listing has: it does not fit, or has a pair twice.
 fn is_bad(row: NodeRow) -> bool
     ensures { (result ≡ is_bad (node_row_of row))
         × (result ≡ false → (1 ≤ row.position.0) × (row.position.0 ≤ max_units) × (row.entry.count ≤ max_pairs)) }
 {
-    let position = row.position;
-    if position.0 < 1 {
-        return true;
-    }
-    if MAX_UNITS < position.0 as usize {
-        return true;
-    }
-    let entry = row.entry;
-    if MAX_PAIRS < entry.count as usize {
-        return true;
-    }
-    twice(row.pairs())
+    !fits(row.position, row.entry.count) || twice(&row.pairs())
 }
 
 impl Rows {
@@ -62,9 +55,8 @@ impl Rows {
     pub fn none() -> Self
         ensures { gathering_of result ≡ nothing_seen }
     {
-        let row = NodeRow::none();
         Rows {
-            seats: [row; MAX_UNITS],
+            seats: [None; MAX_UNITS],
             last: 0,
             bad: false,
             falling: false,
@@ -72,21 +64,17 @@ impl Rows {
     }
 
     // One row more.
-    pub fn with(mut self, row: NodeRow) -> Self
-        ensures { gathering_of result ≡ gathered (gathering_of self) (node_row_of row) }
+    pub fn push(&mut self, row: NodeRow)
+        ensures { gathering_of self.new ≡ gathered (gathering_of self.old) (node_row_of row) }
     {
+        let position = row.position.0;
         if is_bad(row) {
             self.bad = true;
-            return self;
-        }
-        let position = row.position;
-        if position.0 <= self.last {
+        } else if position <= self.last {
             self.falling = true;
-            return self;
+        } else {
+            self.last = position;
+            self.seats[position as usize - 1] = Some(row);
         }
-        self.last = position.0;
-        let seat = position.0 as usize - 1;
-        self.seats[seat] = row;
-        self
     }
 }

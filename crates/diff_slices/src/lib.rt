@@ -8,15 +8,13 @@ ghost use Rattle.diff_rows.specs.Gathering.{gathering_of, nothing_seen, gathered
 use diff_rows::Rows;
 use row_node::NodeRow;
 
-// All rows of the slice, each handed on by value.
+// All rows of the slice, one after the other.
 pub fn gathered(rows: &[NodeRow]) -> Rows
     ensures { gathering_of result ≡ gathered_all nothing_seen (map node_row_of rows.now) }
 {
     let mut all = Rows::none();
-    let mut i = 0;
-    while i < rows.len() {
-        all = all.with(rows[i]);
-        i += 1;
+    for row in rows {
+        all.push(*row);
     }
     all
 }

@@ -17,7 +17,7 @@ use ring_entries::changes::Change;
 use ring_entries::verdict::Verdict;
 use ring_entries::{changes, limit};
 use row_entry::NodeEntry;
-use row_renumber::renumber::Renumbering;
+use row_renumber::renumber::Offer;
 use wire_address::{LogicalNodeAddress, NodePosition};
 use wire_orders::Notice;
 
@@ -29,7 +29,7 @@ impl RegistryImage {
         position: NodePosition,
         address: LogicalNodeAddress,
         next: NodeEntry,
-        step: Renumbering,
+        step: Option<Offer>,
     ) -> Recorded
         requires { Seat self position.0 × (3 ≤ self.size) × Marked next
             × (length (written (reply_outcome (view_of self) position.0 address.0 (row_of next) (renumbering_of step))) ≤ length out.old) }

@@ -7,7 +7,6 @@ ghost use Rattle.registry.specs.Outcome.{Does, HandedOut};
 use super::image::RegistryImage;
 use numbers::{DONE, ORDER_ROOM_TOO_SHORT, RECORD_MALFORMED};
 use ring_answer::hear;
-use row_renumber::renumber::Renumbering;
 use sizes::MIN_ROOM;
 use wire_address::LogicalNodeAddress;
 use wire_events::Event;
@@ -43,8 +42,9 @@ impl RegistryImage {
         if out.len() < MIN_ROOM {
             return self.refuse(ORDER_ROOM_TOO_SHORT);
         }
-        let read = wire_events::decode(bytes);
-        let event = read.event;
+        let Some(event) = wire_events::decode(bytes) else {
+            return self.refuse(RECORD_MALFORMED);
+        };
         let state = self.state;
         let number = ring_refusals::refusal(state, event);
         if number != DONE {
@@ -57,7 +57,6 @@ impl RegistryImage {
             return self.refuse(late);
         }
         match event {
-            Event::Malformed => self.refuse(RECORD_MALFORMED),
             Event::Start(nodes) => self.start(out, nodes),
             Event::NetworkChange(nodes) => self.network_change(out, nodes),
             Event::Shutdown => self.shut_down(out),
@@ -65,9 +64,9 @@ impl RegistryImage {
                 pass: _,
                 position,
                 address,
+                pairs,
             } => {
                 let entries = self.entries;
-                let pairs = read.pairs;
                 let heard = hear::hear(self.units as usize, entries, seat, address, pairs);
                 let verdict = heard.verdict;
                 if verdict.conflicts() {
@@ -79,8 +78,7 @@ impl RegistryImage {
             }
             Event::NoAnswer { pass: _, position } => {
                 let next = entry.silenced();
-                let none = Renumbering::Finished;
-                self.reply(out, position, LogicalNodeAddress(0), next, none)
+                self.reply(out, position, LogicalNodeAddress(0), next, None)
             }
             Event::DelayExpired { pass } => self.delay_expired(out, pass),
         }

@@ -16,10 +16,10 @@ ghost use Rattle.ring_answer.specs.Hearing.{Hears, Keeps, renumbering_by};
 
 use super::survey;
 use ring_entries::verdict::Verdict;
-use row_entry::{LISTED, NodeEntry, SETTING};
+use row_entry::NodeEntry;
 use row_judge::judge;
 use row_renumber::renumber;
-use row_renumber::renumber::Renumbering;
+use row_renumber::renumber::Offer;
 use sizes::{MAX_PAIRS, MAX_UNITS};
 use wire_address::LogicalNodeAddress;
 use wire_pairs::Pairs;
@@ -29,7 +29,7 @@ use wire_pairs::Pairs;
 pub struct Heard {
     pub verdict: Verdict,
     pub next: NodeEntry,
-    pub step: Renumbering,
+    pub step: Option<Offer>,
 }
 
 // Nothing is renumbered.
@@ -39,7 +39,7 @@ fn unrenumbered(verdict: Verdict, next: NodeEntry) -> Heard
     Heard {
         verdict,
         next,
-        step: Renumbering::Finished,
+        step: None,
     }
 }
 
@@ -47,23 +47,17 @@ fn unrenumbered(verdict: Verdict, next: NodeEntry) -> Heard
 #[derive(Clone, Copy)]
 struct Kept {
     pairs: Pairs,
-    step: Renumbering,
+    step: Option<Offer>,
 }
 
 // The entry of a node whose address is kept: LISTED, or SETTING with its renumbering.
-fn registered(address: LogicalNodeAddress, kept: Pairs, step: Renumbering, bad: u8) -> NodeEntry
+fn registered(address: LogicalNodeAddress, kept: Pairs, step: Option<Offer>, bad: u8) -> NodeEntry
     ensures { (◌≡◌ {A = Row} (row_of result) (record { status = status_after address.0 (pairs_of kept) (renumbering_of step); bad = bad; silences = 0 }))
         × Marked result }
 {
     match step {
-        Renumbering::Finished => NodeEntry::keeping(LISTED, address, kept, 0, 0, bad),
-        Renumbering::Renumbers {
-            place,
-            tries,
-            block: _,
-            old: _,
-            new: _,
-        } => NodeEntry::keeping(SETTING, address, kept, place, tries, bad),
+        None => NodeEntry::listed(address, &kept, bad),
+        Some(offer) => NodeEntry::setting(address, &kept, offer.place, offer.tries, bad),
     }
 }
 
@@ -74,14 +68,21 @@ fn renumbering(
     seat: usize,
     announced: Pairs,
     good: [bool; MAX_PAIRS],
-) -> Renumbering
+) -> Option<Offer>
     requires { seat < min count max_units }
     ensures { renumbering_of result ≡ renumbering_by (seat_at (rows_of count entries) (suc seat)) (pairs_of announced) (judged_of (pairs_of announced) good) }
 {
     let entry = entries[seat];
     let mut others = entries;
     others[seat] = NodeEntry::absent();
-    renumber::renumber_from(count, others, announced, good, entry.place(), entry.tries())
+    let n = row_entry::clamp(count);
+    renumber::renumber_from(
+        &others[..n],
+        &announced,
+        &good,
+        entry.place(),
+        entry.tries(),
+    )
 }
 
 // The announced pairs that the node keeps, and what is renumbered; `held` marks those that another entry keeps.
@@ -95,12 +96,12 @@ fn keep(
     requires { (seat < min count max_units) × (held ≡ held_by (collect pairs_in (others (seat_at (rows_of count entries) (suc seat)))) (pairs_of announced)) }
     ensures { Keeps (seat_at (rows_of count entries) (suc seat)) (pairs_of announced) result }
 {
-    let good = judge::judge(held, announced);
-    let kept = judge::good_pairs(announced, good);
+    let good = judge::judge(&held, &announced);
+    let kept = judge::good_pairs(&announced, &good);
     if kept.len() == announced.len() {
         return Kept {
             pairs: kept,
-            step: Renumbering::Finished,
+            step: None,
         };
     }
     Kept {

@@ -50,7 +50,7 @@ pub fn survey_of(
         let other = seen_at(entries[i], i, seat);
         let next = claims.with(other, address);
         claims = next;
-        held::mark_held(&mut marks, other.pairs(), announced);
+        held::mark_held(&mut marks, &other.pairs(), &announced);
         i += 1;
     }
     Survey {

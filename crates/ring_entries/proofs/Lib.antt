@@ -1,4 +1,4 @@
 -- Laws that several functions' proofs use.
-pub mod Loops
+pub mod Rows
 pub mod Seats
 pub mod Counting

@@ -1,5 +1,5 @@
 -- The row of a position between the others: as one row of the list, stored to, taken out, or counted with the others.
-use Prim.Native.Nat.{ℕ, zero, suc, ◌<◌, min}
+use Prim.Native.Nat.{ℕ, zero, suc, ◌<◌}
 use mathlib.Core.Path.{◌≡◌, refl, sym, ◌∙◌, ap}
 use mathlib.Core.Bool.{Bool, false, cond, ◌||◌}
 use mathlib.Core.List.{List, [], ◌∷◌, ◌++◌, map}
@@ -7,12 +7,11 @@ use native.Mathlib.Nat.{not-suc-le-zero, le_of_suc-le-suc}
 use native.Mathlib.Omega.{arith}
 use lib.ListN.{length, get_or, set, take, drop}
 use Rattle.laws.specs.Lists.{any, collect}
-use Rattle.rules.specs.House.{max_units}
 use Rattle.rules.specs.Picture.{Row, no_row, kept_by, pairs_of, pairs_in, Seat, seat_at, others, put}
 use Rattle.rules.specs.Step.{on_counted}
 use Rattle.row_entry.specs.declared.NodeEntry.{NodeEntry}
-use Rattle.row_entry.specs.View.{row_of, rows_of}
-use Rattle.row_entry.proofs.Arrays.{rows_length, rows_at, rows_set}
+use Rattle.row_entry.specs.View.{row_of}
+use Rattle.std.proofs.lemmas.List.{map-set, get_or-map, length-map}
 
 module _ {A : Type 0} where
   put_at : (i : ℕ) (a : A) (xs : List A) → i < length xs → take i xs ++ a ∷ drop (suc i) xs ≡ set xs i a
@@ -75,12 +74,13 @@ module _ (rs : List Row) (i : ℕ) {x : ℕ} (e : x ≡ suc i) (l : i < length r
   seat_counted counts f = ap (on_counted counts f) seat ∙ map_around (λ (r : Row). cond (counts r) (f r) r) i (f (get_or rs i no_row)) rs l
 
 -- the pairs of the others are those of the entries with none in the seat
-pub pairs_beside : (k : ℕ) (es : List NodeEntry) (i : ℕ) → i < length (rows_of k es) → (b : NodeEntry) → row_of b ≡ no_row
-    → collect pairs_in (rows_of k (set es i b)) ≡ collect pairs_in (others (seat_at (rows_of k es) (suc i)))
+pub pairs_beside : (es : List NodeEntry) (i : ℕ) → i < length es → (b : NodeEntry) → row_of b ≡ no_row
+    → collect pairs_in (map row_of (set es i b)) ≡ collect pairs_in (others (seat_at (map row_of es) (suc i)))
 unfolding pairs_in no_row pairs_of kept_by
-pairs_beside k es i l b none =
-    ap (collect pairs_in) (rows_set k i b es ∙ ap (set (rows_of k es) i) none) ∙ sym (seat_pairs (rows_of k es) i refl l no_row refl)
+pairs_beside es i l b none =
+    ap (collect pairs_in) (map-set row_of es i b ∙ ap (set (map row_of es) i) none)
+    ∙ sym (seat_pairs (map row_of es) i refl (omega (arith, l, length-map es row_of)) no_row refl)
 
 -- the row in the seat is the entry's
-pub seat_own : (k i : ℕ) (es : List NodeEntry) → length es ≡ max_units → i < min k max_units → (d : NodeEntry) → row_of (get_or es i d) ≡ (seat_at (rows_of k es) (suc i)).row
-seat_own k i es full l d = sym (seat_row (rows_of k es) i refl (omega (arith, l, rows_length es full k)) ∙ rows_at es full k i d no_row l)
+pub seat_own : (i : ℕ) (es : List NodeEntry) → i < length es → (d : NodeEntry) → row_of (get_or es i d) ≡ (seat_at (map row_of es) (suc i)).row
+seat_own i es l d = sym (seat_row (map row_of es) i refl (omega (arith, l, length-map es row_of)) ∙ get_or-map row_of es i d no_row l)

@@ -8,7 +8,6 @@ ghost use Rattle.ring_entries.specs.Verdicts.{verdict_of};
 use super::verdict::Verdict;
 use row_entry::NodeEntry;
 use wire_address::LogicalNodeAddress;
-use wire_pairs::bools::either;
 
 // An entry bars the address; an entry keeps it.
 #[derive(Clone, Copy)]
@@ -19,31 +18,30 @@ pub struct Claims {
 
 impl Claims {
     // The claims with one entry more.
-    pub fn with(self, entry: NodeEntry, address: LogicalNodeAddress) -> Claims
-        ensures { (result.barred ≡ self.barred || bars address.0 (row_of entry)) × (result.kept ≡ self.kept || keeps address.0 (row_of entry)) }
+    pub fn with(self, entry: &NodeEntry, address: LogicalNodeAddress) -> Claims
+        ensures { (result.barred ≡ self.barred || bars address.0 (row_of entry.now)) × (result.kept ≡ self.kept || keeps address.0 (row_of entry.now)) }
     {
         Claims {
-            barred: either(self.barred, entry.bars(address)),
-            kept: either(self.kept, entry.keeps(address)),
+            barred: self.barred || entry.bars(address),
+            kept: self.kept || entry.keeps(address),
         }
     }
 
     // The verdict on the address that the node of this entry announces, where these are the claims of the others.
-    pub fn verdict(self, entry: NodeEntry, address: LogicalNodeAddress) -> Verdict
-        ensures { verdict_of result ≡ first_that_applies self.barred (in_range address.0) self.kept (keeps_other address.0 (row_of entry)) }
+    #[tactic(auto, unfolding(rules::specs::Step::first_that_applies))]
+    pub fn verdict(self, entry: &NodeEntry, address: LogicalNodeAddress) -> Verdict
+        ensures { verdict_of result ≡ first_that_applies self.barred (in_range address.0) self.kept (keeps_other address.0 (row_of entry.now)) }
     {
         if self.barred {
-            return Verdict::Barred;
+            Verdict::Barred
+        } else if !address.in_range() {
+            Verdict::Outside
+        } else if self.kept {
+            Verdict::Duplicate
+        } else if entry.keeps_other(address) {
+            Verdict::Changed
+        } else {
+            Verdict::Fine
         }
-        if !address.in_range() {
-            return Verdict::Outside;
-        }
-        if self.kept {
-            return Verdict::Duplicate;
-        }
-        if entry.keeps_other(address) {
-            return Verdict::Changed;
-        }
-        Verdict::Fine
     }
 }

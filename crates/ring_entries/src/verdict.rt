@@ -19,28 +19,24 @@ pub enum Verdict {
 
 impl Verdict {
     // The announcement is a bad one, and counted.
+    #[tactic(auto, unfolding(crate::specs::Verdicts::is_conflict))]
     pub fn conflicts(self) -> bool
         ensures { result ≡ is_conflict (verdict_of self) }
     {
         match self {
-            Verdict::Barred => false,
-            Verdict::Outside => true,
-            Verdict::Duplicate => true,
-            Verdict::Changed => true,
-            Verdict::Fine => false,
+            Verdict::Outside | Verdict::Duplicate | Verdict::Changed => true,
+            Verdict::Barred | Verdict::Fine => false,
         }
     }
 
     // The announcement is counted for another entry too: for one that keeps the address.
-    pub fn counts_for(self, entry: NodeEntry, address: LogicalNodeAddress) -> bool
-        ensures { result ≡ counts_for (verdict_of self) address.0 (row_of entry) }
+    #[tactic(auto, unfolding(crate::specs::Verdicts::counts_for, rules::specs::Step::nobody))]
+    pub fn counts_for(self, entry: &NodeEntry, address: LogicalNodeAddress) -> bool
+        ensures { result ≡ counts_for (verdict_of self) address.0 (row_of entry.now) }
     {
         match self {
-            Verdict::Barred => false,
-            Verdict::Outside => false,
             Verdict::Duplicate => entry.keeps(address),
-            Verdict::Changed => false,
-            Verdict::Fine => false,
+            Verdict::Barred | Verdict::Outside | Verdict::Changed | Verdict::Fine => false,
         }
     }
 }

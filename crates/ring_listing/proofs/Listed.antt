@@ -1,15 +1,17 @@
--- Entries stored one behind the other: what one turn of a loop over the pairs of an entry, or over the entries of a ring, leaves to be stored.
-use Prim.Native.Nat.{ℕ, suc, ◌+◌}
-use mathlib.Core.Path.{◌≡◌, refl, ◌∙◌, ap}
-use mathlib.Core.List.{List, [], ◌∷◌, ◌++◌, map}
-use native.Mathlib.Numerals.{add-one}
+-- Entries one behind the other: one more, those of a node, and those of the nodes passed.
+use Prim.Native.Nat.{ℕ, zero, suc, ◌+◌, ◌<◌}
+use mathlib.Core.Path.{◌≡◌, refl, sym, ◌∙◌, ap}
+use mathlib.Core.List.{List, [], ◌∷◌, ◌++◌, append_assoc, append-nil, map}
 use native.Mathlib.Omega.{arith}
-use lib.ListN.{length, length-map, set, replicate}
-use Rattle.laws.specs.Buffers.{Wrote, Owes, owes_start, owes_on, owes_end, wrote_along}
+use lib.ListN.{length, length-append, get_or, set, take, drop, replicate}
+use Rattle.std.proofs.lemmas.List.{take_more, length-take-le, length-map}
+use Rattle.std.proofs.lemmas.List.Edits.{sets}
+use Rattle.laws.specs.Buffers.{sets_append}
 use Rattle.rules.specs.House.{max_entries}
 use Rattle.rules.specs.Picture.{Pair, Row, kept_in}
 use Rattle.rules.specs.Listing.{Entry, entry, entries_of, entries_from}
-use Rattle.wire_pairs.specs.View.{pair_of}
+use Rattle.row_entry.specs.declared.NodeEntry.{NodeEntry}
+use Rattle.row_entry.specs.View.{row_of}
 use Rattle.ring_listing.specs.declared.Listing.{Listing}
 use Rattle.ring_listing.specs.View.{filled, flat_of}
 
@@ -17,74 +19,75 @@ map_append : {A B : Type 0} (f : A → B) (xs ys : List A) → map f (xs ++ ys) 
 map_append f [] ys = refl
 map_append {B = B} f (x ∷ xs) ys = ap (λ (l : List B). f x ∷ l) (map_append f xs ys)
 
--- one value, and those behind it
-one_on : {b c : List ℕ} {at i : ℕ} {whole xs rest : List ℕ} (y : ℕ) → xs ≡ y ∷ rest → Owes b at whole i c xs → Owes b at whole (i + 1) (set c i y) rest
-one_on y e k = owes_on (y ∷ []) e (record { buffer = refl; place = refl }) k
+-- one place more is filled
+filled_one : (f : Entry → ℕ) (es : List Entry) (e : Entry) → set (filled (map f es)) (length es) (f e) ≡ filled (map f (es ++ e ∷ []))
+unfolding filled
+filled_one f es e =
+    let n : length es ≡ 0 + length (map f es) = omega (arith, length-map es f) in
+    ap (λ (k : ℕ). set (sets (replicate max_entries 0) 0 (map f es)) k (f e)) n
+    ∙ sets_append (replicate max_entries 0) 0 (map f es) (f e ∷ []) ∙ ap (sets (replicate max_entries 0) 0) (sym (map_append f es (e ∷ [])))
 
-row_on : (f : Entry → ℕ) {b c d : List ℕ} {at i j : ℕ} {whole : List ℕ} {es : List Entry} (here rest : List Entry) → es ≡ here ++ rest → Wrote c i (map f here) j d
-    → Owes b at whole i c (map f es) → Owes b at whole j d (map f rest)
-row_on f here rest e h k = owes_on (map f here) (ap (map f) e ∙ map_append f here rest) h k
+pub pushed : (l : Listing) (e : Entry) (es : List Entry) → l ≡ flat_of es
+    → ◌≡◌ {A = Listing}
+    (record {
+      count = l.count + 1;
+      positions = set l.positions l.count e.position;
+      addresses = set l.addresses l.count e.address;
+      blocks = set l.blocks l.count e.pair.block;
+      numbers = set l.numbers l.count e.pair.number;
+    })
+    (flat_of (es ++ e ∷ []))
+unfolding flat_of
+pushed l e es h =
+    let n : length es + 1 ≡ length (es ++ e ∷ []) = omega (arith, length-append es (e ∷ [])) in
+    (λ t.
+    record {
+      count = (h t).count + 1;
+      positions = set (h t).positions (h t).count e.position;
+      addresses = set (h t).addresses (h t).count e.address;
+      blocks = set (h t).blocks (h t).count e.pair.block;
+      numbers = set (h t).numbers (h t).count e.pair.number;
+    })
+    ∙ (λ t.
+    record {
+      count = n t;
+      positions = filled_one (λ (e : Entry). e.position) es e t;
+      addresses = filled_one (λ (e : Entry). e.address) es e t;
+      blocks = filled_one (λ (e : Entry). e.pair.block) es e t;
+      numbers = filled_one (λ (e : Entry). e.pair.number) es e t;
+    })
 
--- Four arrays that entries are stored to side by side: the rest, stored from here on, makes the whole.
-pub record Stored (p₀ a₀ b₀ n₀ : List ℕ) (at : ℕ) (whole : List Entry) (i : ℕ) (p a b n : List ℕ) (rest : List Entry) : Type 0 where
-  pub positions : Owes p₀ at (map (λ (e : Entry). e.position) whole) i p (map (λ (e : Entry). e.position) rest)
-  pub addresses : Owes a₀ at (map (λ (e : Entry). e.address) whole) i a (map (λ (e : Entry). e.address) rest)
-  pub blocks : Owes b₀ at (map (λ (e : Entry). e.pair.block) whole) i b (map (λ (e : Entry). e.pair.block) rest)
-  pub numbers : Owes n₀ at (map (λ (e : Entry). e.pair.number) whole) i n (map (λ (e : Entry). e.pair.number) rest)
+-- the first elements and the one behind them
+take_one : {A : Type 0} (i : ℕ) (xs : List A) {x : A} {rest : List A} → drop i xs ≡ x ∷ rest → take (suc i) xs ≡ take i xs ++ x ∷ []
+take_one zero [] e = cc
+take_one {A} zero (y ∷ xs) {x} e = let k : y ≡ x = cc in ap (λ (z : A). z ∷ []) k
+take_one (suc i) [] e = cc
+take_one {A} (suc i) (y ∷ xs) e = ap (λ (l : List A). y ∷ l) (take_one i xs e)
 
-pub stored_start : (p a b n : List ℕ) (at : ℕ) (es : List Entry) → Stored p a b n at es at p a b n es
-stored_start p a b n at es = record { positions = owes_start _ _ _; addresses = owes_start _ _ _; blocks = owes_start _ _ _; numbers = owes_start _ _ _ }
+-- the entries of the first pairs of a node, and of the pair behind them
+pub pairs_next : (x a i : ℕ) (es : List Entry) (ps : List Pair) {p : Pair} {rest : List Pair} → drop i ps ≡ p ∷ rest
+    → (es ++ map (entry x a) (take i ps)) ++ entry x a p ∷ [] ≡ es ++ map (entry x a) (take (i + 1) ps)
+pairs_next x a i es ps {p} h =
+    append_assoc es (map (entry x a) (take i ps)) (entry x a p ∷ [])
+    ∙ ap (λ (l : List Entry). es ++ l) (sym (map_append (entry x a) (take i ps) (p ∷ [])))
+    ∙ (let z : i + 1 ≡ suc i = omega arith in rw z (ap (λ (l : List Pair). es ++ map (entry x a) l) (sym (take_one i ps h))))
 
-module _ {p₀ a₀ b₀ n₀ : List ℕ} {at : ℕ} {whole : List Entry} {i : ℕ} {p a b n : List ℕ} where
-  -- one pair of an entry, and those behind it
-  pub stored_pair : (x d y z : ℕ) {ps rest : List Pair} → ps ≡ pair_of y z ∷ rest → Stored p₀ a₀ b₀ n₀ at whole i p a b n (map (entry x d) ps)
-      → Stored p₀ a₀ b₀ n₀ at whole (i + 1) (set p i x) (set a i d) (set b i y) (set n i z) (map (entry x d) rest)
-  unfolding entry pair_of
-  stored_pair x d y z {ps} {rest} e k =
-      record {
-        positions = one_on x (ap (λ (l : List Pair). map (λ (e : Entry). e.position) (map (entry x d) l)) e) k.positions;
-        addresses = one_on d (ap (λ (l : List Pair). map (λ (e : Entry). e.address) (map (entry x d) l)) e) k.addresses;
-        blocks = one_on y (ap (λ (l : List Pair). map (λ (e : Entry). e.pair.block) (map (entry x d) l)) e) k.blocks;
-        numbers = one_on z (ap (λ (l : List Pair). map (λ (e : Entry). e.pair.number) (map (entry x d) l)) e) k.numbers;
-      }
-
-  -- one entry of a ring, and those behind it
-  pub stored_row : {q c d m : List ℕ} {j : ℕ} {rows rest : List Row} {r : Row} (x : ℕ) → rows ≡ r ∷ rest
-      → Wrote p i (map (λ (e : Entry). e.position) (entries_of x (kept_in r))) j q × Wrote a i (map (λ (e : Entry). e.address) (entries_of x (kept_in r))) j c
-      × Wrote b i (map (λ (e : Entry). e.pair.block) (entries_of x (kept_in r))) j d × Wrote n i (map (λ (e : Entry). e.pair.number) (entries_of x (kept_in r))) j m
-      → Stored p₀ a₀ b₀ n₀ at whole i p a b n (entries_from x rows) → Stored p₀ a₀ b₀ n₀ at whole j q c d m (entries_from (x + 1) rest)
-  unfolding entries_from
-  stored_row {rows = rows} {rest} {r} x e w k =
-      let f : entries_from x rows ≡ entries_of x (kept_in r) ++ entries_from (suc x) rest = ap (entries_from x) e in
-      rw (add-one x)
-      (record {
-        positions = row_on (λ (e : Entry). e.position) (entries_of x (kept_in r)) (entries_from (suc x) rest) f w.0 k.positions;
-        addresses = row_on (λ (e : Entry). e.address) (entries_of x (kept_in r)) (entries_from (suc x) rest) f w.1 k.addresses;
-        blocks = row_on (λ (e : Entry). e.pair.block) (entries_of x (kept_in r)) (entries_from (suc x) rest) f w.2 k.blocks;
-        numbers = row_on (λ (e : Entry). e.pair.number) (entries_of x (kept_in r)) (entries_from (suc x) rest) f w.3 k.numbers;
-      })
-
-  -- none left
-  pub stored_end : {es rest : List Entry} → rest ≡ [] → whole ≡ es → Stored p₀ a₀ b₀ n₀ at whole i p a b n rest
-      → Wrote p₀ at (map (λ (e : Entry). e.position) es) i p × Wrote a₀ at (map (λ (e : Entry). e.address) es) i a
-      × Wrote b₀ at (map (λ (e : Entry). e.pair.block) es) i b × Wrote n₀ at (map (λ (e : Entry). e.pair.number) es) i n
-  stored_end e f k = (
-    wrote_along (ap (map (λ (e : Entry). e.position)) f) (owes_end (ap (map (λ (e : Entry). e.position)) e) k.positions),
-    wrote_along (ap (map (λ (e : Entry). e.address)) f) (owes_end (ap (map (λ (e : Entry). e.address)) e) k.addresses),
-    wrote_along (ap (map (λ (e : Entry). e.pair.block)) f) (owes_end (ap (map (λ (e : Entry). e.pair.block)) e) k.blocks),
-    wrote_along (ap (map (λ (e : Entry). e.pair.number)) f) (owes_end (ap (map (λ (e : Entry). e.pair.number)) e) k.numbers),
-  )
-
-pub no_rows : (x : ℕ) {rows : List Row} → rows ≡ [] → entries_from x rows ≡ []
+entries_next : (x : ℕ) (r : Row) (rs : List Row) → entries_from x (rs ++ r ∷ []) ≡ entries_from x rs ++ entries_of (x + length rs) (kept_in r)
 unfolding entries_from
-no_rows x e = ap (entries_from x) e
+entries_next x r [] = let z : x + 0 ≡ x = omega arith in rw z (append-nil (entries_of x (kept_in r)))
+entries_next x r (a ∷ rs) =
+    let z : x + suc (length rs) ≡ suc x + length rs = omega arith in
+    rw (z, append_assoc) (ap (λ (l : List Entry). entries_of x (kept_in a) ++ l) (entries_next (suc x) r rs))
 
--- the four arrays, filled from their start on, are the flat listing
-pub flat : (es : List Entry) {n : ℕ} {p a b m : List ℕ} → Wrote (replicate max_entries 0) 0 (map (λ (e : Entry). e.position) es) n p
-    × Wrote (replicate max_entries 0) 0 (map (λ (e : Entry). e.address) es) n a × Wrote (replicate max_entries 0) 0 (map (λ (e : Entry). e.pair.block) es) n b
-    × Wrote (replicate max_entries 0) 0 (map (λ (e : Entry). e.pair.number) es) n m
-    → ◌≡◌ {A = Listing} (record { count = n; positions = p; addresses = a; blocks = b; numbers = m }) (flat_of es)
-unfolding flat_of filled
-flat es {n} w =
-    let e : n ≡ length es = omega (arith, w.0.place, length-map es (λ (e : Entry). e.position)) in
-    λ t. record { count = e t; positions = w.0.buffer t; addresses = w.1.buffer t; blocks = w.2.buffer t; numbers = w.3.buffer t }
+-- the entries of the first nodes, and of the one behind them
+pub nodes_next : (es : List NodeEntry) (i : ℕ) (d : NodeEntry) → i < length es
+    → entries_from 1 (map row_of (take i es)) ++ entries_of (i + 1) (kept_in (row_of (get_or es i d))) ≡ entries_from 1 (map row_of (take (i + 1) es))
+nodes_next es i d h =
+    let z : 1 + length (map row_of (take i es)) ≡ i + 1 = omega (arith, length-map (take i es) row_of, length-take-le i es (omega arith)) in
+    ap (λ (x : ℕ). entries_from 1 (map row_of (take i es)) ++ entries_of x (kept_in (row_of (get_or es i d)))) (sym z)
+    ∙ sym (entries_next 1 (row_of (get_or es i d)) (map row_of (take i es)))
+    ∙ ap (entries_from 1) (sym (ap (map row_of) (take_more es i d h) ∙ map_append row_of (take i es) (get_or es i d ∷ [])))
+
+pub flat_count : {l : Listing} (es : List Entry) → l ≡ flat_of es → l.count ≡ length es
+unfolding flat_of
+flat_count es h = ap (λ (l : Listing). l.count) h

@@ -1,19 +1,21 @@
 // The whole listing, flat: by position and announced order.
 #![tactic(auto)]
 
-ghost use Rattle.std.specs.Prelude.{◌≡◌, ◌+◌, ◌≤◌, map, length};
-ghost use Rattle.laws.specs.Buffers.{Wrote};
-ghost use Rattle.rules.specs.House.{max_entries, max_pairs};
+ghost use Rattle.std.specs.Prelude.{◌≡◌, ◌+◌, ◌<◌, ◌≤◌, List, [], ◌∷◌, ◌++◌, map, length};
+ghost use Rattle.rules.specs.House.{max_entries, max_pairs, max_units};
 ghost use Rattle.rules.specs.Picture.{kept_in};
-ghost use Rattle.rules.specs.Listing.{Entry, entries_of, entries_from};
-ghost use Rattle.row_entry.specs.View.{row_of, rows_of};
+ghost use Rattle.rules.specs.Listing.{Entry, entry, entries_of, entries_from};
+ghost use Rattle.wire_pairs.specs.View.{pair_in};
+ghost use Rattle.row_entry.specs.View.{row_of};
 ghost use Rattle.ring_listing.specs.View.{flat_of};
 
-use row_entry::{NodeEntry, clamp};
-use sizes::{MAX_LISTED, MAX_UNITS};
-use wire_address::NodePosition;
+use row_entry::NodeEntry;
+use sizes::MAX_LISTED;
+use wire_address::{LogicalNodeAddress, NodePosition};
+use wire_pairs::Pair;
 
 // The first `count` places hold entries: a position, an address, a block and a number each. The places behind them hold zeros.
+// C interface: a count and four arrays side by side, in this order.
 #[repr(C)]
 #[derive(Clone, Copy)]
 pub struct Listing {
@@ -24,71 +26,55 @@ pub struct Listing {
     pub numbers: [u8; MAX_LISTED],
 }
 
-// The listed pairs of one entry, written from `at` on; the place behind them is handed back.
-fn list_entry(
-    positions: &mut [u8],
-    addresses: &mut [u16],
-    blocks: &mut [u8],
-    numbers: &mut [u8],
-    at: usize,
-    position: NodePosition,
-    entry: NodeEntry,
-) -> usize
-    requires { (at + max_pairs ≤ max_entries) × (length positions.old ≡ max_entries) × (length addresses.old ≡ max_entries)
-        × (length blocks.old ≡ max_entries) × (length numbers.old ≡ max_entries) }
-    ensures { (result ≤ at + max_pairs)
-        × Wrote positions.old at (map (λ (e : Entry). e.position) (entries_of position.0 (kept_in (row_of entry)))) result positions.new
-        × Wrote addresses.old at (map (λ (e : Entry). e.address) (entries_of position.0 (kept_in (row_of entry)))) result addresses.new
-        × Wrote blocks.old at (map (λ (e : Entry). e.pair.block) (entries_of position.0 (kept_in (row_of entry)))) result blocks.new
-        × Wrote numbers.old at (map (λ (e : Entry). e.pair.number) (entries_of position.0 (kept_in (row_of entry)))) result numbers.new }
-{
-    let pairs = entry.pairs();
-    let n = pairs.len();
-    let address = entry.address;
-    let mut end = at;
-    let mut i = 0;
-    while i < n {
-        positions[end] = position.0;
-        addresses[end] = address.0;
-        blocks[end] = pairs.blocks[i];
-        numbers[end] = pairs.numbers[i];
-        end += 1;
-        i += 1;
+impl Listing {
+    // No entries.
+    #[tactic(auto, unfolding(crate::specs::View::flat_of, crate::specs::View::filled))]
+    fn none() -> Self
+        ensures { result ≡ flat_of [] }
+    {
+        Listing {
+            count: 0,
+            positions: [0; MAX_LISTED],
+            addresses: [0; MAX_LISTED],
+            blocks: [0; MAX_LISTED],
+            numbers: [0; MAX_LISTED],
+        }
     }
-    end
+
+    // Another entry, behind these.
+    fn push(&mut self, position: NodePosition, address: LogicalNodeAddress, pair: Pair)
+        requires { self.old.count < max_entries }
+        ensures count { self.new.count ≡ self.old.count + 1 }
+        ensures entries { (es : List Entry) → self.old ≡ flat_of es → self.new ≡ flat_of (es ++ entry position.0 address.0 (pair_in pair) ∷ []) }
+    {
+        self.positions[self.count] = position.0;
+        self.addresses[self.count] = address.0;
+        self.blocks[self.count] = pair.block;
+        self.numbers[self.count] = pair.number;
+        self.count += 1;
+    }
+
+    // The pairs that a node keeps, behind these.
+    fn list(&mut self, position: NodePosition, node: &NodeEntry)
+        requires { self.old.count + max_pairs ≤ max_entries }
+        ensures count { self.new.count ≤ self.old.count + max_pairs }
+        ensures entries { (es : List Entry) → self.old ≡ flat_of es → self.new ≡ flat_of (es ++ entries_of position.0 (kept_in (row_of node.now))) }
+    {
+        let pairs = node.pairs();
+        for i in 0..pairs.len() {
+            self.push(position, node.address, pairs.at(i));
+        }
+    }
 }
 
-// The listing of the first `count` entries.
-pub fn listing_of(count: usize, entries: [NodeEntry; MAX_UNITS]) -> Listing
-    ensures { (result ≡ flat_of (entries_from 1 (rows_of count entries))) × (length (entries_from 1 (rows_of count entries)) ≤ max_entries) }
+// The listing of the nodes; the first one has position 1.
+pub fn listing_of(nodes: &[NodeEntry]) -> Listing
+    requires { length nodes.now ≤ max_units }
+    ensures { (result ≡ flat_of (entries_from 1 (map row_of nodes.now))) × (length (entries_from 1 (map row_of nodes.now)) ≤ max_entries) }
 {
-    let mut positions = [0u8; 1512];
-    let mut addresses = [0u16; 1512];
-    let mut blocks = [0u8; 1512];
-    let mut numbers = [0u8; 1512];
-    let n = clamp(count);
-    let mut end = 0;
-    let mut i = 0;
-    while i < n {
-        let before = i as u8;
-        let position = before + 1;
-        let next = list_entry(
-            &mut positions,
-            &mut addresses,
-            &mut blocks,
-            &mut numbers,
-            end,
-            NodePosition(position),
-            entries[i],
-        );
-        end = next;
-        i += 1;
+    let mut listing = Listing::none();
+    for (i, node) in nodes.iter().enumerate() {
+        listing.list(NodePosition(i as u8 + 1), node);
     }
-    Listing {
-        count: end,
-        positions,
-        addresses,
-        blocks,
-        numbers,
-    }
+    listing
 }

@@ -1,87 +1,56 @@
 // Where a pair is listed.
 #![tactic(auto)]
 
-ghost use Rattle.std.specs.Prelude.{◌≡◌};
+ghost use Rattle.std.specs.Prelude.{◌≡◌, ◌≤◌, map, length};
+ghost use Rattle.rules.specs.House.{max_units};
 ghost use Rattle.rules.specs.Listing.{first_of, entries_from, lookup_number, lookup_position, lookup_address};
-ghost use Rattle.wire_pairs.specs.View.{pair_of};
-ghost use Rattle.row_entry.specs.View.{rows_of};
+ghost use Rattle.wire_pairs.specs.View.{pair_in};
+ghost use Rattle.row_entry.specs.View.{row_of};
 ghost use Rattle.ring_lookup.specs.View.{lookup_of};
 
-use numbers::{DONE, NOT_LISTED};
-use row_entry::{NodeEntry, clamp};
-use sizes::MAX_UNITS;
+use numbers::{DONE, Refusal};
+use row_entry::NodeEntry;
 use wire_address::{LogicalNodeAddress, NodePosition};
+use wire_pairs::Pair;
 
-// What a look-up answers: the number of a refusal, or where the pair is listed.
+// Where a pair is listed.
 #[derive(Clone, Copy)]
-pub enum Lookup {
-    Refused(u8),
-    Found {
-        position: NodePosition,
-        address: LogicalNodeAddress,
-    },
+pub struct Place {
+    pub position: NodePosition,
+    pub address: LogicalNodeAddress,
 }
 
-impl Lookup {
-    // The number given back: 0 where the pair is listed.
-    pub fn number(self) -> u8
-        ensures { result ≡ lookup_number (lookup_of self) }
-    {
-        match self {
-            Lookup::Refused(number) => number,
-            Lookup::Found {
-                position: _,
-                address: _,
-            } => DONE,
-        }
-    }
-
-    // The position: 0 beside a refusal.
-    pub fn position(self) -> NodePosition
-        ensures { result.0 ≡ lookup_position (lookup_of self) }
-    {
-        match self {
-            Lookup::Refused(_) => NodePosition(0),
-            Lookup::Found {
-                position,
-                address: _,
-            } => position,
-        }
-    }
-
-    // The address: 0 beside a refusal.
-    pub fn address(self) -> LogicalNodeAddress
-        ensures { result.0 ≡ lookup_address (lookup_of self) }
-    {
-        match self {
-            Lookup::Refused(_) => LogicalNodeAddress(0),
-            Lookup::Found {
-                position: _,
-                address,
-            } => address,
-        }
-    }
-}
-
-// The first of the first `count` entries that keeps the pair, or 17.
-pub fn find(count: usize, entries: [NodeEntry; MAX_UNITS], block: u8, number: u8) -> Lookup
-    ensures { lookup_of result ≡ first_of (pair_of block number) (entries_from 1 (rows_of count entries)) }
+// The number given back, 0 where the pair is listed, and the place, zeros beside a refusal.
+// C interface: a number beside the place.
+#[tactic(auto, unfolding(rules::specs::Listing::lookup_number, rules::specs::Listing::lookup_position, rules::specs::Listing::lookup_address))]
+pub fn number_and_place(answer: Result<Place, Refusal>) -> (u8, Place)
+    ensures { (result.0 ≡ lookup_number (lookup_of answer)) × (result.1.position.0 ≡ lookup_position (lookup_of answer))
+        × (result.1.address.0 ≡ lookup_address (lookup_of answer)) }
 {
-    let n = clamp(count);
-    let mut i = 0;
-    while i < n {
-        let entry = entries[i];
-        let pairs = entry.pairs();
-        let address = entry.address;
-        if pairs.holds(block, number) {
-            let before = i as u8;
-            let position = before + 1;
-            return Lookup::Found {
-                position: NodePosition(position),
-                address,
-            };
-        }
-        i += 1;
+    match answer {
+        Ok(place) => (DONE, place),
+        Err(refusal) => (
+            refusal.number(),
+            Place {
+                position: NodePosition(0),
+                address: LogicalNodeAddress(0),
+            },
+        ),
     }
-    Lookup::Refused(NOT_LISTED)
+}
+
+// The first of the entries that keeps the pair, or 17.
+pub fn find(entries: &[NodeEntry], pair: Pair) -> Result<Place, Refusal>
+    requires { length entries.now ≤ max_units }
+    ensures { lookup_of result ≡ first_of (pair_in pair) (entries_from 1 (map row_of entries.now)) }
+{
+    for (i, entry) in entries.iter().enumerate() {
+        if entry.pairs().holds(pair) {
+            return Ok(Place {
+                position: NodePosition(i as u8 + 1),
+                address: entry.address,
+            });
+        }
+    }
+    Err(Refusal::NotListed)
 }

@@ -1,187 +1,104 @@
-// Which number an event is refused with, 2 to 8, from what the picture says of it.
+// Why an event is refused, 3 to 8, from what the picture says of it.
 #![tactic(auto)]
 
-ghost use Rattle.std.specs.Prelude.{◌≡◌, [], ◌<◌};
+ghost use Rattle.std.specs.Prelude.{◌≡◌, map, ◌≤◌, length, get_or, IfOk};
+ghost use Rattle.std.proofs.Math.Option.{some};
 ghost use Rattle.rules.specs.House.{max_units};
+ghost use Rattle.rules.specs.Picture.{no_row};
+ghost use Rattle.numbers.specs.Numbers.{number_in};
 ghost use Rattle.row_entry.specs.View.{row_of};
 ghost use Rattle.wire_events.specs.View.{event_of};
-ghost use Rattle.ring_state.specs.State.{state_of, state_row};
-ghost use Rattle.ring_refusals.specs.Numbers.{unasked_number, unexpected_number, refusal_of, place_in, seat_in, seat_refusal, or_else, reply_refusal};
+ghost use Rattle.ring_state.specs.State.{state_of};
+ghost use Rattle.ring_refusals.specs.Numbers.{refusal_of, place_in, seat_in, seat_refusal, unasked_number, unexpected_number, reply_refusal};
 
-use numbers::{
-    ALREADY_RUNNING, DONE, NO_SUCH_POSITION, NOT_ASKED, NOT_RUNNING, POSITION_IGNORED,
-    RECORD_MALFORMED, WRONG_PASS,
-};
+use numbers::Refusal;
 use ring_state::{NOTOK, OFF, RegistryState};
 use row_entry::NodeEntry;
-use sizes::MAX_UNITS;
 use wire_address::NodePosition;
 use wire_events::Event;
 
-// What the table says: taken, the ring does not run, it runs already.
-const TAKEN: u8 = DONE;
-
-const IDLE: u8 = NOT_RUNNING;
-
-const RUNS: u8 = ALREADY_RUNNING;
-
-// The refusals by state and kind: a row for each of OFF, NOTOK and OK, a number for each of START, NCE, SHUTDOWN, ANSWER, NONE and
-// DELAY.
-const REFUSALS: [[u8; 6]; 3] = [
-    [TAKEN, IDLE, IDLE, IDLE, IDLE, IDLE],
-    [RUNS, TAKEN, TAKEN, TAKEN, TAKEN, TAKEN],
-    [RUNS, TAKEN, TAKEN, TAKEN, TAKEN, TAKEN],
-];
-
-// The table's row for a state.
-fn row_of(state: RegistryState) -> usize
-    ensures { (result ≡ state_row state.0) × (result < 3) }
+// OFF takes START, NOTOK and OK take all others: 3 where the ring does not run, 4 where it runs already.
+#[tactic(auto, unfolding(crate::specs::Numbers::refusal_of, rules::specs::Step::takes, rules::specs::Step::not_taken, ring_state::specs::State::state_of))]
+pub fn refusal(state: RegistryState, event: &Event) -> Result<(), Refusal>
+    ensures { number_in result ≡ refusal_of (state_of state.0) (some (event_of event.now)) }
 {
-    if state.0 == OFF {
-        return 0;
-    }
-    if state.0 == NOTOK {
-        return 1;
-    }
-    2
-}
-
-// 2 for bytes that are no event, 3 or 4 by the table, or 0.
-pub fn refusal(state: RegistryState, event: Event) -> u8
-    ensures { result ≡ refusal_of (state_of state.0) (event_of event []) }
-{
-    let row = row_of(state);
-    match event {
-        Event::Malformed => RECORD_MALFORMED,
-        Event::Start(_) => REFUSALS[row][0],
-        Event::NetworkChange(_) => REFUSALS[row][1],
-        Event::Shutdown => REFUSALS[row][2],
-        Event::Answer {
-            pass: _,
-            position: _,
-            address: _,
-        } => REFUSALS[row][3],
-        Event::NoAnswer {
-            pass: _,
-            position: _,
-        } => REFUSALS[row][4],
-        Event::DelayExpired { pass: _ } => REFUSALS[row][5],
+    match (state.0, event) {
+        (OFF, Event::Start(_)) => Ok(()),
+        (OFF, _) => Err(Refusal::NotRunning),
+        (_, Event::Start(_)) => Err(Refusal::AlreadyRunning),
+        (_, _) => Ok(()),
     }
 }
 
-// The place of a position's entry; the first where no ring has the position.
-fn place_of(position: NodePosition) -> usize
-    ensures { (result ≡ place_in position.0) × (result < max_units) }
-{
-    let x = position.0 as usize;
-    if x == 0 {
-        return 0;
-    }
-    if MAX_UNITS < x {
-        return 0;
-    }
-    x - 1
-}
-
-// The place of the entry that an event speaks of; the first where it speaks of none.
-pub fn seat_of(event: Event) -> usize
-    ensures { (result ≡ seat_in (event_of event [])) × (result < max_units) }
-{
-    match event {
-        Event::Malformed => 0,
-        Event::Start(_) => 0,
-        Event::NetworkChange(_) => 0,
-        Event::Shutdown => 0,
-        Event::Answer {
-            pass: _,
-            position,
-            address: _,
-        } => place_of(position),
-        Event::NoAnswer { pass: _, position } => place_of(position),
-        Event::DelayExpired { pass: _ } => 0,
-    }
-}
-
-// 5, 6 or 7 for an ANSWER or a NONE of this pass and position, or 0.
-fn seat_refusal(current: u32, units: u8, entry: NodeEntry, pass: u32, position: NodePosition) -> u8
-    ensures { result ≡ seat_refusal current units (row_of entry) pass position.0 }
+// The entry of a position that answers in the pass; 5 for another pass, 6 where the ring has no such position, 7 where it is IGNORED.
+#[tactic(auto, unfolding(crate::specs::Numbers::seat_refusal, crate::specs::Numbers::place_in))]
+fn answering(
+    current: u32,
+    entries: &[NodeEntry],
+    pass: u32,
+    position: NodePosition,
+) -> Result<NodeEntry, Refusal>
+    requires { length entries.now ≤ max_units }
+    ensures number { number_in result
+        ≡ seat_refusal current (length entries.now) (get_or (map row_of entries.now) (place_in position.0) no_row) pass position.0 }
+    ensures entry { IfOk result (λ e. row_of e ≡ get_or (map row_of entries.now) (place_in position.0) no_row) }
 {
     if pass != current {
-        return WRONG_PASS;
+        return Err(Refusal::WrongPass);
     }
     let x = position.0 as usize;
-    if x == 0 {
-        return NO_SUCH_POSITION;
+    if x == 0 || entries.len() < x {
+        return Err(Refusal::NoSuchPosition);
     }
-    if row_entry::clamp(units as usize) < x {
-        return NO_SUCH_POSITION;
-    }
+    let entry = entries[x - 1];
     if entry.is_ignored() {
-        return POSITION_IGNORED;
+        return Err(Refusal::PositionIgnored);
     }
-    DONE
+    Ok(entry)
 }
 
-// 8 for an ANSWER in NOTOK whose question is not open, or 0.
-fn unasked(state: RegistryState, entry: NodeEntry) -> u8
-    ensures { result ≡ unasked_number (state_of state.0) (row_of entry) }
+// 8 for an ANSWER in NOTOK whose question is not open.
+#[tactic(auto, unfolding(rules::specs::Picture::is_not_ok, ring_state::specs::State::state_of))]
+fn unasked(state: RegistryState, entry: &NodeEntry) -> Result<(), Refusal>
+    ensures { number_in result ≡ unasked_number (state_of state.0) (row_of entry.now) }
 {
-    if state.0 == NOTOK {
-        if entry.is_open() {
-            return DONE;
-        }
-        return NOT_ASKED;
+    if state.0 == NOTOK && !entry.is_open() {
+        return Err(Refusal::NotAsked);
     }
-    DONE
+    Ok(())
 }
 
-// 8 for a NONE whose question is not open, or 0.
-fn unexpected(entry: NodeEntry) -> u8
-    ensures { result ≡ unexpected_number (row_of entry) }
+// 8 for a NONE whose question is not open.
+fn unexpected(entry: &NodeEntry) -> Result<(), Refusal>
+    ensures { number_in result ≡ unexpected_number (row_of entry.now) }
 {
-    if entry.is_open() {
-        return DONE;
+    if !entry.is_open() {
+        return Err(Refusal::NotAsked);
     }
-    NOT_ASKED
+    Ok(())
 }
 
-// The first of two numbers, or the second where that is 0.
-fn or_else(first: u8, second: u8) -> u8
-    ensures { result ≡ or_else first second }
-{
-    if first == DONE {
-        return second;
-    }
-    first
-}
-
-// 5 to 8 for an ANSWER or a NONE, where the entry is the one that it speaks of; or 0.
+// 5 to 8 for an ANSWER or a NONE.
+#[tactic(auto, using(crate::proofs::Firsts::or_refused), unfolding(crate::specs::Numbers::reply_refusal, crate::specs::Numbers::seat_in, crate::specs::Numbers::or_else))]
 pub fn reply_refusal(
     state: RegistryState,
     current: u32,
-    units: u8,
-    entry: NodeEntry,
-    event: Event,
-) -> u8
-    ensures { result ≡ reply_refusal (state_of state.0) current units (row_of entry) (event_of event []) }
+    entries: &[NodeEntry],
+    event: &Event,
+) -> Result<(), Refusal>
+    requires { length entries.now ≤ max_units }
+    ensures { number_in result ≡ reply_refusal (state_of state.0) current (length entries.now)
+        (get_or (map row_of entries.now) (seat_in (some (event_of event.now))) no_row) (some (event_of event.now)) }
 {
-    match event {
-        Event::Malformed => DONE,
-        Event::Start(_) => DONE,
-        Event::NetworkChange(_) => DONE,
-        Event::Shutdown => DONE,
-        Event::Answer {
-            pass,
-            position,
-            address: _,
-        } => or_else(
-            seat_refusal(current, units, entry, pass, position),
-            unasked(state, entry),
-        ),
-        Event::NoAnswer { pass, position } => or_else(
-            seat_refusal(current, units, entry, pass, position),
-            unexpected(entry),
-        ),
-        Event::DelayExpired { pass: _ } => DONE,
+    match *event {
+        Event::Answer { pass, position, .. } => {
+            let entry = answering(current, entries, pass, position)?;
+            unasked(state, &entry)
+        }
+        Event::NoAnswer { pass, position } => {
+            let entry = answering(current, entries, pass, position)?;
+            unexpected(&entry)
+        }
+        _ => Ok(()),
     }
 }

@@ -1,21 +1,22 @@
 -- Rows stored one behind the other: what one turn of the loop over the entries adds.
-use Prim.Native.Nat.{ℕ, zero, suc, ◌+◌, ◌<◌, ◌≤◌, min}
+use Prim.Native.Nat.{ℕ, zero, suc, ◌+◌, ◌<◌, ◌≤◌}
 use mathlib.Core.Path.{◌≡◌, refl, sym, ◌∙◌, ap}
 use mathlib.Core.Bool.{Bool, true, false, cond}
 use mathlib.Core.List.{List, [], ◌∷◌, ◌++◌, append_assoc, append-nil, map}
 use mathlib.Core.Logic.{◌⊎◌, inl, inr}
 use native.Mathlib.Nat.{not-suc-le-zero, le_of_suc-le-suc}
-use native.Mathlib.Numerals.{add-one}
 use native.Mathlib.Omega.{arith}
-use lib.ListN.{length, length-append, get_or, set, replicate}
+use lib.ListN.{length, length-append, get_or, set, take, replicate}
 use Rattle.laws.specs.Bools.{decide}
-use Rattle.laws.specs.Views.{firsts, firsts_length, firsts_min}
+use Rattle.laws.specs.Views.{firsts}
+use Rattle.std.proofs.lemmas.List.{take_more, length-take-le, length-map}
+use Rattle.std.proofs.Common.{take_all}
 use Rattle.rules.specs.House.{max_units}
-use Rattle.rules.specs.Picture.{Row, kept_in}
+use Rattle.rules.specs.Picture.{Row, Kept, kept_in}
 use Rattle.rules_diff.specs.Differences as rules
 use Rattle.rules_diff.specs.Differences.{listed_row, listed_rows_from}
 use Rattle.row_entry.specs.declared.NodeEntry.{NodeEntry}
-use Rattle.row_entry.specs.View.{row_of, rows_of, is_listed}
+use Rattle.row_entry.specs.View.{row_of, is_listed}
 use Rattle.row_entry.proofs.Marks.{kept_listed, kept_else}
 use Rattle.row_node.specs.declared.NodeRow.{NodeRow}
 use Rattle.row_node.specs.View.{held_pairs, node_row_of, node_row, held_row, no_node_row}
@@ -35,17 +36,6 @@ filled_one zero r (x ∷ rs) = refl
 filled_one (suc n) r [] = refl
 filled_one (suc n) r (x ∷ rs) = ap (λ (l : List NodeRow). x ∷ l) (filled_one n r rs)
 
-filled_none : (n : ℕ) (rs : List NodeRow) → set (filled n rs) (length rs) no_node_row ≡ filled n rs
-unfolding filled
-filled_none zero [] = refl
-filled_none zero (x ∷ rs) = refl
-filled_none (suc n) [] = refl
-filled_none (suc n) (x ∷ rs) = ap (λ (l : List NodeRow). x ∷ l) (filled_none n rs)
-
-filled_if : (n : ℕ) (b : Bool) (r : NodeRow) (rs : List NodeRow) → set (filled n rs) (length rs) (cond b r no_node_row) ≡ filled n (rs ++ cond b (r ∷ []) [])
-filled_if n true r rs = filled_one n r rs
-filled_if n false r rs = filled_none n rs ∙ ap (filled n) (sym (append-nil rs))
-
 pub filled_length : (n : ℕ) (rs : List NodeRow) → length (filled n rs) ≡ n
 unfolding filled
 filled_length zero rs = refl
@@ -58,13 +48,6 @@ unfolding firsts filled
 filled_firsts v n [] h = refl
 filled_firsts v zero (r ∷ rs) h = absurd (not-suc-le-zero h)
 filled_firsts {B} v (suc n) (r ∷ rs) h = ap (λ (l : List B). v r ∷ l) (filled_firsts v n rs (le_of_suc-le-suc h))
-
--- one element more
-next : {A B : Type 0} (v : A → B) (k : ℕ) (d : A) (xs : List A) → k < length xs → firsts v (suc k) xs ≡ firsts v k xs ++ v (get_or xs k d) ∷ []
-unfolding firsts
-next v k d [] h = absurd (not-suc-le-zero h)
-next v zero d (x ∷ xs) h = refl
-next {B = B} v (suc k) d (x ∷ xs) h = ap (λ (l : List B). v x ∷ l) (next v k d xs (le_of_suc-le-suc h))
 
 listed_next : (x : ℕ) (e : NodeEntry) (es : List NodeEntry) → listed_entries x (es ++ e ∷ []) ≡ listed_entries x es ++ listed_entry (x + length es) e
 unfolding listed_entries
@@ -96,76 +79,103 @@ entry_stands x e s = go (decide (is_listed (row_of e)))
     go (inl h) = ap rows_by h ∙ ap (λ (r : rules.NodeRow). r ∷ []) s ∙ sym (ap (listed_row x) (kept_listed e h))
     go (inr h) = ap rows_by h ∙ sym (ap (listed_row x) (kept_else e h))
 
+-- another row behind those that fill their places
+pub pushed : (r : ListedRows) (row : NodeRow) (rs : List NodeRow) → r ≡ filled_rows rs
+    → ◌≡◌ {A = ListedRows} (record { count = r.count + 1; rows = set r.rows r.count row }) (filled_rows (rs ++ row ∷ []))
+unfolding filled_rows
+pushed r row rs e =
+    let n : length rs + 1 ≡ length (rs ++ row ∷ []) = omega (arith, length-append rs (row ∷ [])) in
+    (λ t. record { count = (e t).count + 1; rows = set (e t).rows (e t).count row })
+    ∙ (λ t. record { count = n t; rows = filled_one max_units row rs t })
+
 -- the rows of the first i entries
 unfoldable pub those : List NodeEntry → ℕ → List NodeRow
-those es i = listed_entries 1 (firsts (λ (e : NodeEntry). e) i es)
+those es i = listed_entries 1 (take i es)
 
--- so many places are filled, with the rows of the first i entries, which stand for the rules' rows
-pub record Filling (es : List NodeEntry) (i end : ℕ) (rows : List NodeRow) : Type 0 where
-  pub count : end ≡ length (those es i)
-  pub places : rows ≡ filled max_units (those es i)
-  pub stands : map node_row_of (those es i) ≡ listed_rows_from 1 (rows_of i es)
+those_few : (x : ℕ) (es : List NodeEntry) → length (listed_entries x es) ≤ length es
+unfolding listed_entries listed_entry
+those_few x [] = omega arith
+those_few x (e ∷ es) =
+    let h = those_few (suc x) es in
+    let l = length-append (listed_entry x e) (listed_entries (suc x) es) in
+    let o = one (is_listed (row_of e)) in
+    omega (arith, h, l, o)
+  where
+    one : (b : Bool) → length (cond b (node_row x e ∷ []) []) ≤ 1
+    one true = omega arith
+    one false = omega arith
 
-pub filling_start : (es : List NodeEntry) → Filling es 0 0 (replicate max_units no_node_row)
-unfolding those firsts rows_of listed_entries listed_rows_from
-filling_start es = record { count = refl; places = filled_start max_units; stands = refl }
+-- the places are filled with the rows of the first i entries, which stand for the rules' rows
+pub record Filling (es : List NodeEntry) (i : ℕ) (r : ListedRows) : Type 0 where
+  pub places : r ≡ filled_rows (those es i)
+  pub stands : map node_row_of (those es i) ≡ listed_rows_from 1 (map row_of (take i es))
+
+pub filling_start : (es : List NodeEntry) {r : ListedRows} → r ≡ filled_rows [] → Filling es 0 r
+unfolding those listed_entries listed_rows_from
+filling_start es e = record { places = e; stands = refl }
+
+-- no more rows than entries
+pub filling_few : {es : List NodeEntry} {i : ℕ} {r : ListedRows} → i ≤ length es → Filling es i r → r.count ≤ i
+unfolding those filled_rows
+filling_few {es} {i} h f = omega (arith, ap (λ (r : ListedRows). r.count) f.places, those_few 1 (take i es), length-take-le i es h)
 
 module _ (es : List NodeEntry) (i : ℕ) (d : NodeEntry) (h : i < length es) where
   these_next : those es (i + 1) ≡ those es i ++ listed_entry (i + 1) (get_or es i d)
   unfolding those
   these_next =
-      let id : NodeEntry → NodeEntry = λ e. e in
-      let n = firsts_length id i es (omega arith) in
-      let z : 1 + length (firsts id i es) ≡ i + 1 = omega arith in
-      rw (add-one i) (ap (listed_entries 1) (next id i d es h)) ∙ listed_next 1 (get_or es i d) (firsts id i es)
-      ∙ ap (λ (x : ℕ). listed_entries 1 (firsts id i es) ++ listed_entry x (get_or es i d)) z
+      let z : 1 + length (take i es) ≡ i + 1 = omega (arith, length-take-le i es (omega arith)) in
+      ap (listed_entries 1) (take_more es i d h) ∙ listed_next 1 (get_or es i d) (take i es)
+      ∙ ap (λ (x : ℕ). listed_entries 1 (take i es) ++ listed_entry x (get_or es i d)) z
 
-  rows_next : listed_rows_from 1 (rows_of (i + 1) es) ≡ listed_rows_from 1 (rows_of i es) ++ listed_row (i + 1) (kept_in (row_of (get_or es i d)))
-  unfolding rows_of
+  rows_next : listed_rows_from 1 (map row_of (take (i + 1) es))
+      ≡ listed_rows_from 1 (map row_of (take i es)) ++ listed_row (i + 1) (kept_in (row_of (get_or es i d)))
   rows_next =
-      let n = firsts_length row_of i es (omega arith) in
-      let z : 1 + length (firsts row_of i es) ≡ i + 1 = omega arith in
-      rw (add-one i) (ap (listed_rows_from 1) (next row_of i d es h)) ∙ rules_next 1 (row_of (get_or es i d)) (firsts row_of i es)
-      ∙ ap (λ (x : ℕ). listed_rows_from 1 (firsts row_of i es) ++ listed_row x (kept_in (row_of (get_or es i d)))) z
+      let z : 1 + length (map row_of (take i es)) ≡ i + 1 = omega (arith, length-map (take i es) row_of, length-take-le i es (omega arith)) in
+      ap (listed_rows_from 1) (ap (map row_of) (take_more es i d h) ∙ map_append row_of (take i es) (get_or es i d ∷ []))
+      ∙ rules_next 1 (row_of (get_or es i d)) (map row_of (take i es))
+      ∙ ap (λ (x : ℕ). listed_rows_from 1 (map row_of (take i es)) ++ listed_row x (kept_in (row_of (get_or es i d)))) z
 
-  length_if : (b : Bool) (r : NodeRow) → length (cond b (r ∷ []) []) ≡ cond b 1 0
-  length_if true r = refl
-  length_if false r = refl
+  stands_next : node_row_of (node_row (i + 1) (get_or es i d)) ≡ held_row (i + 1) (get_or es i d)
+      → map node_row_of (those es i) ≡ listed_rows_from 1 (map row_of (take i es))
+      → map node_row_of (those es (i + 1)) ≡ listed_rows_from 1 (map row_of (take (i + 1) es))
+  stands_next s f =
+      ap (map node_row_of) these_next ∙ map_append node_row_of (those es i) (listed_entry (i + 1) (get_or es i d))
+      ∙ ap (λ (l : List rules.NodeRow). l ++ map node_row_of (listed_entry (i + 1) (get_or es i d))) f
+      ∙ ap (λ (l : List rules.NodeRow). listed_rows_from 1 (map row_of (take i es)) ++ l) (entry_stands (i + 1) (get_or es i d) s) ∙ sym rows_next
 
-  -- the next entry: its row stored where it is listed, else none
-  pub filling_on : {end more : ℕ} {rows : List NodeRow} {b : Bool} {made row : NodeRow} → b ≡ is_listed (row_of (get_or es i d))
-      → made ≡ node_row (i + 1) (get_or es i d) → node_row_of made ≡ held_row (i + 1) (get_or es i d) → row ≡ cond b made no_node_row
-      → more ≡ cond b 1 0 → Filling es i end rows → Filling es (i + 1) (end + more) (set rows end row)
+  -- the next entry: its row behind the others where it is listed, else none
+  pub filling_push : {r q : ListedRows} {made : NodeRow} → is_listed (row_of (get_or es i d)) ≡ true → made ≡ node_row (i + 1) (get_or es i d)
+      → node_row_of made ≡ held_row (i + 1) (get_or es i d) → ((rs : List NodeRow) → r ≡ filled_rows rs → q ≡ filled_rows (rs ++ made ∷ [])) → Filling es i r
+      → Filling es (i + 1) q
   unfolding listed_entry
-  filling_on {end} {more} {rows} {b} {made} {row} t n s r m f =
-      let e = get_or es i d in
-      let x = node_row (i + 1) e in
-      let k = ap {B = ℕ} (λ (b : Bool). cond b 1 0) t in
-      let one = length_if (is_listed (row_of e)) x in
-      let all = ap length these_next ∙ length-append (those es i) (listed_entry (i + 1) e) in
+  filling_push t n s p f =
       record {
-        count = omega (arith, f.count, m, k, one, all);
         places =
-            ap (λ (l : List NodeRow). set l end row) f.places ∙ ap (λ (n : ℕ). set (filled max_units (those es i)) n row) f.count
-            ∙ ap (set (filled max_units (those es i)) (length (those es i))) (r ∙ (λ j. cond (t j) (n j) no_node_row))
-            ∙ filled_if max_units (is_listed (row_of e)) x (those es i) ∙ ap (filled max_units) (sym these_next);
-        stands =
-            ap (map node_row_of) these_next ∙ map_append node_row_of (those es i) (listed_entry (i + 1) e)
-            ∙ ap (λ (l : List rules.NodeRow). l ++ map node_row_of (listed_entry (i + 1) e)) f.stands
-            ∙ ap (λ (l : List rules.NodeRow). listed_rows_from 1 (rows_of i es) ++ l) (entry_stands (i + 1) e (sym (ap node_row_of n) ∙ s)) ∙ sym rows_next;
+            p (those es i) f.places ∙ ap (λ (row : NodeRow). filled_rows (those es i ++ row ∷ [])) n
+            ∙ ap (λ (b : Bool). filled_rows (those es i ++ cond b (node_row (i + 1) (get_or es i d) ∷ []) [])) (sym t) ∙ ap filled_rows (sym these_next);
+        stands = stands_next (sym (ap node_row_of n) ∙ s) f.stands;
       }
 
--- all entries that count
-pub filling_end : {es : List NodeEntry} (count : ℕ) {i end : ℕ} {rows : List NodeRow} → length es ≡ max_units → i ≡ min count max_units → end ≤ max_units → Filling es i end rows
-    → (◌≡◌ {A = ListedRows} (record { count = end; rows = rows }) (filled_rows (listed_entries 1 (firsts (λ (e : NodeEntry). e) count es))))
-    × (node_rows_in (record { count = end; rows = rows }) ≡ listed_rows_from 1 (rows_of count es))
-unfolding those filled_rows node_rows_in rows_of
-filling_end {es} count {i} {end} {rows} l c h f =
-    let id : NodeEntry → NodeEntry = λ e. e in
-    let all = ap (λ (k : ℕ). listed_entries 1 (firsts id k es)) c ∙ ap (listed_entries 1) (firsts_min id count max_units es (omega arith)) in
-    let places = ap (λ (rs : List NodeRow). filled_rows rs) all in (
-      (λ t. record { count = f.count t; rows = f.places t }) ∙ places,
-      ap (λ (k : ℕ). firsts node_row_of k rows) f.count ∙ ap (firsts node_row_of (length (those es i))) f.places
-          ∙ filled_firsts node_row_of max_units (those es i) (omega (arith, f.count)) ∙ f.stands
-          ∙ ap (λ (k : ℕ). listed_rows_from 1 (firsts row_of k es)) c ∙ ap (listed_rows_from 1) (firsts_min row_of count max_units es (omega arith)),
+  pub filling_pass : {r : ListedRows} → is_listed (row_of (get_or es i d)) ≡ false → Filling es i r → Filling es (i + 1) r
+  unfolding listed_entry listed_row
+  filling_pass {r} t f =
+      let e = get_or es i d in
+      let none : those es (i + 1) ≡ those es i =
+      these_next ∙ ap (λ (b : Bool). those es i ++ cond b (node_row (i + 1) e ∷ []) []) t ∙ append-nil (those es i) in
+      let rules_none : listed_rows_from 1 (map row_of (take (i + 1) es)) ≡ listed_rows_from 1 (map row_of (take i es)) =
+      rows_next ∙ ap (λ (k : Kept). listed_rows_from 1 (map row_of (take i es)) ++ listed_row (i + 1) k) (kept_else e t)
+      ∙ append-nil (listed_rows_from 1 (map row_of (take i es))) in
+      record { places = f.places ∙ ap filled_rows (sym none); stands = ap (map node_row_of) none ∙ f.stands ∙ sym rules_none }
+
+-- all entries
+pub filling_end : {es : List NodeEntry} {i : ℕ} {r : ListedRows} → length es ≤ max_units → length es ≤ i → Filling es i r
+    → (r ≡ filled_rows (listed_entries 1 es)) × (node_rows_in r ≡ listed_rows_from 1 (map row_of es))
+unfolding those filled_rows node_rows_in
+filling_end {es} {i} {r} m l f =
+    let all = take_all i es l in
+    let few = those_few 1 es in
+    let p : r ≡ filled_rows (listed_entries 1 es) = f.places ∙ ap (λ (l : List NodeEntry). filled_rows (listed_entries 1 l)) all in (
+      p,
+      ap node_rows_in p ∙ filled_firsts node_row_of max_units (listed_entries 1 es) (omega arith)
+          ∙ ap (λ (l : List NodeEntry). map node_row_of (listed_entries 1 l)) (sym all) ∙ f.stands ∙ ap (λ (l : List NodeEntry). listed_rows_from 1 (map row_of l)) all,
     )

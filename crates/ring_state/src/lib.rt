@@ -19,17 +19,14 @@ pub const NOTOK: u8 = 1;
 // The ring is registered.
 pub const OK: u8 = 2;
 
-// The state is OK.
-pub fn is_ok(state: RegistryState) -> bool
-    ensures { result ≡ is_ok (state_of state.0) }
-{
-    if state.0 == OFF {
-        return false;
+impl RegistryState {
+    // The state is OK.
+    #[tactic(auto, unfolding(rules::specs::Picture::is_ok, crate::specs::State::state_of))]
+    pub fn is_ok(self) -> bool
+        ensures { result ≡ is_ok (state_of self.0) }
+    {
+        self.0 != OFF && self.0 != NOTOK
     }
-    if state.0 == NOTOK {
-        return false;
-    }
-    true
 }
 
 // Whether a delay runs, by its number.

@@ -72,3 +72,9 @@ module _ (pass : ℕ) where
     pub rows_end : (pairs : Row → Row → List Pair) {bs : List Row} (cs : List Row) → bs ≡ [] → encode_all pass (tell_rows order pairs size bs cs) ≡ []
     unfolding tell_rows encode_all collect
     rows_end pairs cs e = ap (λ (l : List Row). encode_all pass (tell_rows order pairs size l cs)) e
+
+    -- no entries on the one side, or on the other
+    pub rows_end_other : (pairs : Row → Row → List Pair) (bs : List Row) {cs : List Row} → cs ≡ [] → encode_all pass (tell_rows order pairs size bs cs) ≡ []
+    unfolding tell_rows encode_all collect
+    rows_end_other pairs [] e = refl
+    rows_end_other pairs (b ∷ bs) e = ap (λ (l : List Row). encode_all pass (tell_rows order pairs size (b ∷ bs) l)) e

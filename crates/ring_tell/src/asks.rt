@@ -1,13 +1,13 @@
 // The ASKs for the entries of a ring, by position.
-ghost use Rattle.std.specs.Prelude.{◌≡◌, [], ◌∷◌, ◌+◌, ◌≤◌, length};
+ghost use Rattle.std.specs.Prelude.{◌≡◌, [], ◌∷◌, ◌+◌, ◌≤◌, map, length};
 ghost use Rattle.laws.specs.Buffers.{Wrote};
+ghost use Rattle.rules.specs.House.{max_units};
 ghost use Rattle.rules.specs.Order.{encode_all};
 ghost use Rattle.rules.specs.Step.{asks};
-ghost use Rattle.row_entry.specs.View.{row_of, rows_of};
+ghost use Rattle.row_entry.specs.View.{row_of};
 ghost use Rattle.ring_tell.specs.View.{which_of};
 
-use row_entry::{NodeEntry, clamp};
-use sizes::MAX_UNITS;
+use row_entry::NodeEntry;
 use wire_address::NodePosition;
 use wire_orders::write_ask;
 
@@ -19,8 +19,8 @@ pub enum Which {
 }
 
 // The entry is one that is asked.
-fn is_asked(which: Which, entry: NodeEntry) -> bool
-    ensures { result ≡ which_of which (row_of entry) }
+fn is_asked(which: Which, entry: &NodeEntry) -> bool
+    ensures { result ≡ which_of which (row_of entry.now) }
 {
     match which {
         Which::Open => entry.is_open(),
@@ -35,38 +35,32 @@ fn write_ask_if(
     pass: u32,
     which: Which,
     position: NodePosition,
-    entry: NodeEntry,
+    entry: &NodeEntry,
 ) -> usize
-    requires { at + length (encode_all pass (asks (which_of which) position.0 (row_of entry ∷ []))) ≤ length out.old }
-    ensures { Wrote out.old at (encode_all pass (asks (which_of which) position.0 (row_of entry ∷ []))) result out.new }
+    requires { at + length (encode_all pass (asks (which_of which) position.0 (row_of entry.now ∷ []))) ≤ length out.old }
+    ensures { Wrote out.old at (encode_all pass (asks (which_of which) position.0 (row_of entry.now ∷ []))) result out.new }
 {
     if is_asked(which, entry) {
-        return write_ask(out, at, pass, position);
+        write_ask(out, at, pass, position)
+    } else {
+        at
     }
-    at
 }
 
-// The ASKs for the first `count` entries, as far as they are asked, ascending.
+// The ASKs for the entries, as far as they are asked, ascending.
 pub fn write_asks(
     out: &mut [u8],
     at: usize,
     pass: u32,
+    entries: &[NodeEntry],
     which: Which,
-    count: usize,
-    entries: [NodeEntry; MAX_UNITS],
 ) -> usize
-    requires { at + length (encode_all pass (asks (which_of which) 1 (rows_of count entries))) ≤ length out.old }
-    ensures { Wrote out.old at (encode_all pass (asks (which_of which) 1 (rows_of count entries))) result out.new }
+    requires { (length entries.now ≤ max_units) × (at + length (encode_all pass (asks (which_of which) 1 (map row_of entries.now))) ≤ length out.old) }
+    ensures { Wrote out.old at (encode_all pass (asks (which_of which) 1 (map row_of entries.now))) result out.new }
 {
-    let n = clamp(count);
     let mut end = at;
-    let mut i = 0;
-    while i < n {
-        let before = i as u8;
-        let position = before + 1;
-        let next = write_ask_if(out, end, pass, which, NodePosition(position), entries[i]);
-        end = next;
-        i += 1;
+    for (i, entry) in entries.iter().enumerate() {
+        end = write_ask_if(out, end, pass, which, NodePosition(i as u8 + 1), entry);
     }
     end
 }

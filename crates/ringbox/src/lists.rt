@@ -1,7 +1,7 @@
 // Two lists of rows, the first and the second.
 use diff_rows::Rows;
 use registry::image::RegistryImage;
-use row_entry::{LISTED, NodeEntry};
+use row_entry::NodeEntry;
 use row_node::NodeRow;
 use sizes::{MAX_PAIRS, MAX_UNITS};
 use text_lists::MAX_PAIR_WORDS;
@@ -142,8 +142,8 @@ pub(crate) fn row_echo(
 pub(crate) fn typed(position: u8, address: u16, bytes: &[u8]) -> NodeRow {
     let all = smaller(bytes.len() / PAIR, MAX_PAIR_WORDS);
     let held = smaller(all, MAX_PAIRS);
-    let pairs = wire_events::read_pairs(&bytes[0..PAIR * held], 0, held);
-    let mut entry = NodeEntry::keeping(LISTED, LogicalNodeAddress(address), pairs, 0, 0, 0);
+    let pairs = wire_events::read_pairs(&bytes[0..PAIR * held]);
+    let mut entry = NodeEntry::listed(LogicalNodeAddress(address), &pairs, 0);
     entry.count = all as u8;
     NodeRow {
         position: NodePosition(position),

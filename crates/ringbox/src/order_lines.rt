@@ -55,9 +55,10 @@ fn set(
 
 // An order in words.
 fn in_words(output: Output, text: &mut [u8; SPACE], bytes: &[u8]) -> Output {
-    let order = decode_order(bytes).order;
-    match order {
-        Order::Malformed => output,
+    let Some(sent) = decode_order(bytes) else {
+        return output;
+    };
+    match sent.order {
         Order::Ask(position) => ask(output, text, position),
         Order::Set {
             position,

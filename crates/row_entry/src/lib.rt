@@ -16,6 +16,7 @@ use wire_address::LogicalNodeAddress;
 use wire_pairs::Pairs;
 
 // The status of a node by its number.
+// C interface: a number.
 #[repr(C)]
 #[derive(Clone, Copy)]
 pub struct NodeStatus(pub u8);
@@ -61,10 +62,7 @@ pub struct NodeEntry {
 pub fn clamp(count: usize) -> usize
     ensures { result ≡ min count max_units }
 {
-    if count < MAX_UNITS {
-        return count;
-    }
-    MAX_UNITS
+    count.min(MAX_UNITS)
 }
 
 impl NodeEntry {
@@ -107,20 +105,18 @@ impl NodeEntry {
         NodeEntry::bare(IGNORED, LogicalNodeAddress(0), 0, 0)
     }
 
-    // An entry that keeps an address and pairs: LISTED, or SETTING with the place and the tries of its renumbering.
-    pub fn keeping(
+    // An entry that keeps an address and pairs.
+    fn keeping(
         status: u8,
         address: LogicalNodeAddress,
-        pairs: Pairs,
+        pairs: &Pairs,
         place: u8,
         tries: u8,
         bad: u8,
     ) -> Self
-        ensures { (◌≡◌ {A = Row} (row_of result) (record { status = status_of status address.0 (pairs_of pairs) place tries; bad = bad; silences = 0 }))
+        ensures { (◌≡◌ {A = Row} (row_of result) (record { status = status_of status address.0 (pairs_of pairs.now) place tries; bad = bad; silences = 0 }))
             × (status ≡ setting_mark → Marked result) × (status ≡ listed_mark → place ≡ 0 → tries ≡ 0 → Marked result) }
     {
-        let blocks = pairs.blocks;
-        let numbers = pairs.numbers;
         NodeEntry {
             address,
             status: NodeStatus(status),
@@ -129,153 +125,121 @@ impl NodeEntry {
             place,
             tries,
             count: pairs.len() as u8,
-            blocks,
-            numbers,
+            blocks: pairs.blocks,
+            numbers: pairs.numbers,
         }
+    }
+
+    // A LISTED entry.
+    pub fn listed(address: LogicalNodeAddress, pairs: &Pairs, bad: u8) -> Self
+        ensures { (◌≡◌ {A = Row} (row_of result) (record { status = picture.LISTED address.0 (pairs_of pairs.now); bad = bad; silences = 0 })) × Marked result }
+    {
+        NodeEntry::keeping(LISTED, address, pairs, 0, 0, bad)
+    }
+
+    // A SETTING entry, with the place and the tries of its renumbering.
+    pub fn setting(
+        address: LogicalNodeAddress,
+        pairs: &Pairs,
+        place: u8,
+        tries: u8,
+        bad: u8,
+    ) -> Self
+        ensures { (◌≡◌ {A = Row} (row_of result) (record { status = picture.SETTING address.0 (pairs_of pairs.now) place tries; bad = bad; silences = 0 })) × Marked result }
+    {
+        NodeEntry::keeping(SETTING, address, pairs, place, tries, bad)
     }
 
     // The question for this node is open.
-    pub fn is_open(self) -> bool
-        ensures { result ≡ is_open (row_of self) }
+    pub fn is_open(&self) -> bool
+        ensures { result ≡ is_open (row_of self.now) }
     {
-        let status = self.status;
-        if status.0 == WAITING {
-            return true;
-        }
-        if status.0 == SETTING {
-            return true;
-        }
-        false
+        matches!(self.status.0, WAITING | SETTING)
     }
 
-    pub fn is_silent(self) -> bool
-        ensures { result ≡ is_silent (row_of self) }
+    pub fn is_silent(&self) -> bool
+        ensures { result ≡ is_silent (row_of self.now) }
     {
-        let status = self.status;
-        if status.0 == SILENT {
-            return true;
-        }
-        false
+        self.status.0 == SILENT
     }
 
-    pub fn is_ignored(self) -> bool
-        ensures { result ≡ is_ignored (row_of self) }
+    pub fn is_ignored(&self) -> bool
+        ensures { result ≡ is_ignored (row_of self.now) }
     {
-        let status = self.status;
-        if status.0 == WAITING {
-            return false;
-        }
-        if status.0 == SETTING {
-            return false;
-        }
-        if status.0 == LISTED {
-            return false;
-        }
-        if status.0 == SILENT {
-            return false;
-        }
-        true
+        !matches!(self.status.0, WAITING | SETTING | LISTED | SILENT)
     }
 
     // The entry keeps an address and pairs.
-    pub fn is_listed(self) -> bool
-        ensures { result ≡ is_listed (row_of self) }
+    pub fn is_listed(&self) -> bool
+        ensures { result ≡ is_listed (row_of self.now) }
     {
-        let status = self.status;
-        if status.0 == SETTING {
-            return true;
-        }
-        if status.0 == LISTED {
-            return true;
-        }
-        false
+        matches!(self.status.0, SETTING | LISTED)
     }
 
     // The entry keeps this address.
-    pub fn keeps(self, address: LogicalNodeAddress) -> bool
-        ensures { result ≡ keeps address.0 (row_of self) }
+    pub fn keeps(&self, address: LogicalNodeAddress) -> bool
+        ensures { result ≡ keeps address.0 (row_of self.now) }
     {
-        if self.is_listed() {
-            let kept = self.address;
-            return address.same(kept);
-        }
-        false
+        self.is_listed() && address == self.address
     }
 
     // The entry keeps another address.
-    pub fn keeps_other(self, address: LogicalNodeAddress) -> bool
-        ensures { result ≡ keeps_other address.0 (row_of self) }
+    pub fn keeps_other(&self, address: LogicalNodeAddress) -> bool
+        ensures { result ≡ keeps_other address.0 (row_of self.now) }
     {
-        if self.is_listed() {
-            let kept = self.address;
-            if address.same(kept) {
-                return false;
-            }
-            return true;
-        }
-        false
+        self.is_listed() && address != self.address
     }
 
     // The entry is IGNORED and bars this address.
-    pub fn bars(self, address: LogicalNodeAddress) -> bool
-        ensures { result ≡ bars address.0 (row_of self) }
+    pub fn bars(&self, address: LogicalNodeAddress) -> bool
+        ensures { result ≡ bars address.0 (row_of self.now) }
     {
-        if self.is_ignored() {
-            let cause = self.address;
-            if address.same(cause) {
-                return address.in_range();
-            }
-            return false;
-        }
-        false
+        self.is_ignored() && address == self.address && address.in_range()
     }
 
     // The pairs that the entry keeps.
-    pub fn pairs(self) -> Pairs
-        ensures { pairs_of result ≡ pairs_in (row_of self) }
+    pub fn pairs(&self) -> Pairs
+        ensures { pairs_of result ≡ pairs_in (row_of self.now) }
     {
         if self.is_listed() {
-            let blocks = self.blocks;
-            let numbers = self.numbers;
-            return Pairs {
-                count: self.count as usize,
-                blocks,
-                numbers,
-            };
+            Pairs {
+                count: usize::from(self.count),
+                blocks: self.blocks,
+                numbers: self.numbers,
+            }
+        } else {
+            Pairs::none()
         }
-        Pairs::none()
     }
 
     // The place of the renumbering: 0 unless SETTING.
-    pub fn place(self) -> u8
-        ensures { result ≡ place_of (row_of self).status }
+    pub fn place(&self) -> u8
+        ensures { result ≡ place_of (row_of self.now).status }
     {
-        let status = self.status;
-        if status.0 == SETTING {
-            return self.place;
+        if self.status.0 == SETTING {
+            self.place
+        } else {
+            0
         }
-        0
     }
 
     // The tries of the renumbering: 0 unless SETTING.
-    pub fn tries(self) -> u8
-        ensures { result ≡ tries_of (row_of self).status }
+    pub fn tries(&self) -> u8
+        ensures { result ≡ tries_of (row_of self.now).status }
     {
-        let status = self.status;
-        if status.0 == SETTING {
-            return self.tries;
+        if self.status.0 == SETTING {
+            self.tries
+        } else {
+            0
         }
-        0
     }
 
     // NONE: the entry is SILENT and counts a silence.
     pub fn silenced(self) -> Self
         ensures { (row_of result ≡ silenced (row_of self)) × Marked result }
     {
-        if self.silences < MAX_SILENCES {
-            return NodeEntry::bare(SILENT, LogicalNodeAddress(0), self.bad, self.silences + 1);
-        }
-        NodeEntry::bare(SILENT, LogicalNodeAddress(0), self.bad, MAX_SILENCES)
+        let silences = self.silences.saturating_add(1).min(MAX_SILENCES);
+        NodeEntry::bare(SILENT, LogicalNodeAddress(0), self.bad, silences)
     }
 
     // DELAY: a SILENT entry is asked.
@@ -306,21 +270,18 @@ impl NodeEntry {
     }
 
     // A bad announcement is counted.
-    pub fn counted(mut self) -> Self
+    pub fn counted(self) -> Self
         ensures { (row_of result ≡ counted (row_of self)) × (Marked self → Marked result) }
     {
-        let bad = self.bad;
-        if bad < MAX_BAD {
-            self.bad = bad + 1;
-            return self;
+        NodeEntry {
+            bad: self.bad.saturating_add(1).min(MAX_BAD),
+            ..self
         }
-        self.bad = MAX_BAD;
-        self
     }
 
     // The entry has counted as many bad announcements as it may.
-    pub fn at_limit(self) -> bool
-        ensures { result ≡ at_limit (row_of self) }
+    pub fn at_limit(&self) -> bool
+        ensures { result ≡ at_limit (row_of self.now) }
     {
         self.bad == MAX_BAD
     }

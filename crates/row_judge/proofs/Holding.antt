@@ -6,7 +6,8 @@ use mathlib.Core.Bool.{Bool, ◌||◌}
 use mathlib.Core.List.{List, [], ◌∷◌, ◌++◌, map}
 use native.Mathlib.Nat.{not-suc-le-zero, le_of_suc-le-suc}
 use native.Mathlib.Numerals.{add-one}
-use lib.ListN.{length, get_or, set}
+use lib.ListN.{length, get_or, set, drop}
+use lib.Seq.{drop-cons}
 use Rattle.laws.specs.Lists.{any, collect}
 use Rattle.laws.specs.Alls.{any_append}
 use Rattle.rules.specs.Picture.{Pair, Row, same_pair, holds, pairs_in}
@@ -19,6 +20,10 @@ or_from (suc j) [] gs = []
 or_from (suc j) (h ∷ hs) [] = h ∷ hs
 or_from (suc j) (h ∷ hs) (g ∷ gs) = h ∷ or_from j hs gs
 
+-- the pair that stands in front of those behind j is the one at j
+pub pair_here : (j : ℕ) (d : Pair) (ps : List Pair) {a : Pair} {rest : List Pair} → j < length ps → drop j ps ≡ a ∷ rest → get_or ps j d ≡ a
+pair_here j d ps l e = ap (λ (xs : List Pair). get_or xs 0 d) (sym (drop-cons ps j d l) ∙ e)
+
 module _ (f : Pair → Bool) where
   turn : (j : ℕ) (d : Bool) (e : Pair) (hs : List Bool) (ps : List Pair) → j < length ps
       → or_from (suc j) (set hs j (get_or hs j d || f (get_or ps j e))) (map f ps) ≡ or_from j hs (map f ps)
@@ -30,9 +35,11 @@ module _ (f : Pair → Bool) where
   turn zero d e (x ∷ hs) (p ∷ ps) k = refl
   turn (suc j) d e (x ∷ hs) (p ∷ ps) k = ap (λ (l : List Bool). x ∷ l) (turn j d e hs ps (le_of_suc-le-suc k))
 
-  pub or_on : (j : ℕ) (d : Bool) (e : Pair) (hs : List Bool) (ps : List Pair) {b : Bool} {whole : List Bool} → j < length ps
-      → b ≡ get_or hs j d || f (get_or ps j e) → or_from j hs (map f ps) ≡ whole → or_from (j + 1) (set hs j b) (map f ps) ≡ whole
-  or_on j d e hs ps k i w = ap (λ (b : Bool). or_from (j + 1) (set hs j b) (map f ps)) i ∙ rw (add-one j) (turn j d e hs ps k) ∙ w
+  pub or_on : (j : ℕ) (d : Bool) (hs : List Bool) (ps : List Pair) {a : Pair} {b : Bool} {whole : List Bool} → j < length ps → drop j ps ≡ a ∷ drop (j + 1) ps
+      → b ≡ get_or hs j d || f a → or_from j hs (map f ps) ≡ whole → or_from (j + 1) (set hs j b) (map f ps) ≡ whole
+  or_on j d hs ps {a} k e i w =
+      ap (λ (b : Bool). or_from (j + 1) (set hs j b) (map f ps)) (i ∙ ap (λ (p : Pair). get_or hs j d || f p) (sym (pair_here j a ps k e)))
+      ∙ rw (add-one j) (turn j d a hs ps k) ∙ w
 
   end : (j : ℕ) (hs : List Bool) (ps : List Pair) → length ps ≤ j → or_from j hs (map f ps) ≡ hs
   unfolding or_from or_each

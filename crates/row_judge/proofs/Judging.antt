@@ -1,5 +1,5 @@
 -- Judging in order: one pair at a time, the good ones collected, and the marks that stand for other rows.
-use Prim.Native.Nat.{ℕ, zero, suc, ◌+◌, ◌<◌, ◌≤◌, min}
+use Prim.Native.Nat.{ℕ, zero, suc, ◌+◌, ◌<◌, ◌≤◌}
 use mathlib.Core.Path.{◌≡◌, refl, sym, ◌∙◌, ap}
 use mathlib.Core.Bool.{Bool, true, false, cond, not, ◌&&◌, ◌||◌}
 use mathlib.Core.List.{List, [], ◌∷◌, ◌++◌, map, append_assoc, append-nil}
@@ -10,11 +10,10 @@ use lib.ListN.{length, get_or, set, take, drop, replicate, drop_of_length-le}
 use lib.Dec.{leb}
 use lib.Seq.{take_all, drop-cons}
 use Rattle.laws.specs.Lists.{any}
-use Rattle.rules.specs.House.{min_number, max_number, max_pairs}
+use Rattle.rules.specs.House.{min_number, max_number}
 use Rattle.rules.specs.Picture.{Pair, same_pair, holds}
 use Rattle.rules.specs.Renumber.{Judged, is_good, judge, goods}
-use Rattle.wire_pairs.specs.View.{pair_of, pairs_from}
-use Rattle.wire_pairs.proofs.Arrays.{pairs_at_lem, pairs_length}
+use Rattle.row_judge.proofs.Holding.{pair_here}
 use Rattle.row_judge.specs.Marks.{or_each, is_good_marked, judge_marked, judged_of}
 
 -- the judged pair at j, and those behind it
@@ -26,29 +25,20 @@ judged_drop j e d (p ∷ ps) [] h k = absurd (not-suc-le-zero k)
 judged_drop zero e d (p ∷ ps) (g ∷ gs) h k = refl
 judged_drop (suc j) e d (p ∷ ps) (g ∷ gs) h k = judged_drop j e d ps gs (le_of_suc-le-suc h) (le_of_suc-le-suc k)
 
-judged_here : (j : ℕ) (e : Pair) (d : Bool) (ps : List Pair) (gs : List Bool) → j < length ps → j < length gs
-    → drop j (judged_of ps gs) ≡ record { pair = get_or ps j e; good = get_or gs j d } ∷ drop (j + 1) (judged_of ps gs)
-judged_here j e d ps gs h k = rw (add-one j) (judged_drop j e d ps gs h k)
+pub judged_at : (j : ℕ) (ps : List Pair) (gs : List Bool) {a : Pair} {b : Bool} → j < length ps → drop j ps ≡ a ∷ drop (j + 1) ps → j < length gs → get_or gs j false ≡ b
+    → drop j (judged_of ps gs) ≡ record { pair = a; good = b } ∷ drop (j + 1) (judged_of ps gs)
+judged_at j ps gs {a} h e k g =
+    rw (add-one j) (judged_drop j a false ps gs h k)
+    ∙ (λ i. record { pair = pair_here j a ps h e i; good = g i } ∷ drop (j + 1) (judged_of ps gs))
 
-judged_past : (j : ℕ) (ps : List Pair) (gs : List Bool) → length ps ≤ j → drop j (judged_of ps gs) ≡ []
+-- none past the end
+pub judged_end : (j : ℕ) (ps : List Pair) (gs : List Bool) → length ps ≤ j → drop j (judged_of ps gs) ≡ []
 unfolding judged_of
-judged_past zero [] gs h = refl
-judged_past (suc j) [] gs h = refl
-judged_past zero (p ∷ ps) gs h = absurd (not-suc-le-zero h)
-judged_past (suc j) (p ∷ ps) [] h = refl
-judged_past (suc j) (p ∷ ps) (g ∷ gs) h = judged_past j ps gs (le_of_suc-le-suc h)
-
--- the same where the pairs are those of two arrays
-module _ (bs ns : List ℕ) (h : length bs ≡ max_pairs) (k : length ns ≡ max_pairs) (c i : ℕ) (gs : List Bool) where
-  pub judged_at : i < min c max_pairs → i < length gs
-      → drop i (judged_of (pairs_from c bs ns) gs)
-      ≡ record { pair = pair_of (get_or bs i 0) (get_or ns i 0); good = get_or gs i false } ∷ drop (i + 1) (judged_of (pairs_from c bs ns) gs)
-  judged_at l m =
-      judged_here i (pair_of 0 0) false (pairs_from c bs ns) gs (omega (arith, pairs_length _ bs ns h k c)) m
-      ∙ ap (λ (a : Pair). record { pair = a; good = get_or gs i false } ∷ drop (i + 1) (judged_of (pairs_from c bs ns) gs)) (pairs_at_lem _ bs ns h k c i (pair_of 0 0) l)
-
-  pub judged_end : min c max_pairs ≤ i → drop i (judged_of (pairs_from c bs ns) gs) ≡ []
-  judged_end l = judged_past i (pairs_from c bs ns) gs (omega (arith, pairs_length _ bs ns h k c))
+judged_end zero [] gs h = refl
+judged_end (suc j) [] gs h = refl
+judged_end zero (p ∷ ps) gs h = absurd (not-suc-le-zero h)
+judged_end (suc j) (p ∷ ps) [] h = refl
+judged_end (suc j) (p ∷ ps) (g ∷ gs) h = judged_end j ps gs (le_of_suc-le-suc h)
 
 pub judged_few : (ps : List Pair) (gs : List Bool) → length (judged_of ps gs) ≤ length ps
 unfolding judged_of
@@ -106,11 +96,12 @@ module _ (hs : List Bool) (ps : List Pair) where
       (judge_same (drop (suc j) hs) (get_or ps j e ∷ take j ps) (take (suc j) ps) (drop (suc j) ps)
       (λ a. holds_last (get_or ps j e) (take j ps) a ∙ ap (λ (l : List Pair). holds l a) (sym (take_next j e ps h))))
 
-  pub judge_on : (j : ℕ) (e : Pair) (d : Bool) (gs : List Bool) {b : Bool} {whole : List Judged} → j < length ps → j < length hs → j < length gs
-      → b ≡ is_good_marked (get_or hs j d) (take j ps) (get_or ps j e)
+  pub judge_on : (j : ℕ) (d : Bool) (gs : List Bool) {e : Pair} {b : Bool} {whole : List Judged} → j < length ps → drop j ps ≡ e ∷ drop (j + 1) ps
+      → j < length hs → j < length gs → b ≡ is_good_marked (get_or hs j d) (take j ps) e
       → take j (judged_of ps gs) ++ judge_marked (drop j hs) (take j ps) (drop j ps) ≡ whole
       → take (j + 1) (judged_of ps (set gs j b)) ++ judge_marked (drop (j + 1) hs) (take (j + 1) ps) (drop (j + 1) ps) ≡ whole
-  judge_on j e d gs {b} h k m f w =
+  judge_on j d gs {e} {b} h at k m g w =
+      let f = g ∙ ap (is_good_marked (get_or hs j d) (take j ps)) (sym (pair_here j e ps h at)) in
       rw (add-one j)
       (ap (λ (l : List Judged). l ++ judge_marked (drop (suc j) hs) (take (suc j) ps) (drop (suc j) ps)) (judged_push j e b ps gs h m)
       ∙ append_assoc (take j (judged_of ps gs)) (record { pair = get_or ps j e; good = b } ∷ []) _

@@ -6,19 +6,13 @@ ghost use Rattle.row_judge.specs.Marks.{or_each};
 
 use sizes::MAX_PAIRS;
 use wire_pairs::Pairs;
-use wire_pairs::bools::either;
 
 // Marks each announced pair that is kept here.
-pub fn mark_held(marks: &mut [bool; MAX_PAIRS], kept: Pairs, announced: Pairs)
-    ensures { marks.new ≡ or_each marks.old (map (holds (pairs_of kept)) (pairs_of announced)) }
+pub fn mark_held(marks: &mut [bool; MAX_PAIRS], kept: &Pairs, announced: &Pairs)
+    ensures { marks.new ≡ or_each marks.old (map (holds (pairs_of kept.now)) (pairs_of announced.now)) }
 {
-    let n = announced.len();
-    let mut i = 0;
-    while i < n {
-        marks[i] = either(
-            marks[i],
-            kept.holds(announced.blocks[i], announced.numbers[i]),
-        );
-        i += 1;
+    for i in 0..announced.len() {
+        let pair = announced.at(i);
+        marks[i] = marks[i] || kept.holds(pair);
     }
 }

@@ -10,7 +10,14 @@ use lib.Dec.{ltb}
 use Rattle.laws.specs.Bools.{clash}
 use Rattle.rules.specs.House.{max_tries}
 use Rattle.rules.specs.Renumber.{Judged, Renumbering, finished, renumbers, offer, renumber_from}
-use Rattle.row_renumber.specs.Marks.{attempt_of, is_offer}
+use Rattle.std.specs.Prelude as code
+use Rattle.row_renumber.specs.declared.renumber.Offer.{Offer}
+use Rattle.row_renumber.specs.Marks.{attempt_of, renumbering_of}
+
+-- a pair is renumbered
+is_offer : Renumbering → Bool
+is_offer finished = false
+is_offer (renumbers place tries pair new) = true
 
 module _ (free : ℕ → Option ℕ) (place tries : ℕ) (j : Judged) (js : List Judged) where
   later : Renumbering
@@ -38,14 +45,20 @@ module _ (free : ℕ → Option ℕ) (place tries : ℕ) (j : Judged) (js : List
       go false true (some n) h = clash refl h
       go false false o h = refl
 
--- one turn: what became of the pair at hand is the whole, or the rest makes it
-module _ (free : ℕ → Option ℕ) (place tries : ℕ) {js rest : List Judged} {j : Judged} {r whole : Renumbering} (e : js ≡ j ∷ rest)
-    (a : r ≡ attempt_of free place tries j) (w : renumber_from free place tries js ≡ whole) where
-  pub turn_offered : is_offer r ≡ true → r ≡ whole
-  turn_offered o = a ∙ sym (offered free place tries j rest (sym (ap is_offer a) ∙ o)) ∙ ap (renumber_from free place tries) (sym e) ∙ w
+-- the code's test
+some_offer : {b : Bool} (r : code.Option Offer) → code.is_some r ≡ b → is_offer (renumbering_of r) ≡ b
+unfolding is_offer
+some_offer code.None e = e
+some_offer (code.Some o) e = e
 
-  pub turn_passed : is_offer r ≡ false → renumber_from free (place + 1) 0 rest ≡ whole
-  turn_passed o = sym (passed free place tries j rest (sym (ap is_offer a) ∙ o)) ∙ ap (renumber_from free place tries) (sym e) ∙ w
+-- one turn: what became of the pair at hand is the whole, or the rest makes it
+module _ (free : ℕ → Option ℕ) (place tries : ℕ) {js rest : List Judged} {j : Judged} {whole : Renumbering} (r : code.Option Offer) (e : js ≡ j ∷ rest)
+    (a : renumbering_of r ≡ attempt_of free place tries j) (w : renumber_from free place tries js ≡ whole) where
+  pub turn_offered : code.is_some r ≡ true → renumbering_of r ≡ whole
+  turn_offered o = a ∙ sym (offered free place tries j rest (sym (ap is_offer a) ∙ some_offer r o)) ∙ ap (renumber_from free place tries) (sym e) ∙ w
+
+  pub turn_passed : code.is_some r ≡ false → renumber_from free (place + 1) 0 rest ≡ whole
+  turn_passed o = sym (passed free place tries j rest (sym (ap is_offer a) ∙ some_offer r o)) ∙ ap (renumber_from free place tries) (sym e) ∙ w
 
 -- a bad pair that a try is left for
 module _ (free : ℕ → Option ℕ) (place tries : ℕ) (j : Judged) (bad : j.good ≡ false) (left : tries < max_tries) where

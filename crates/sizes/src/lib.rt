@@ -42,16 +42,11 @@ pub const DIFFERENCES_ROOM: usize = LINE_SIZE * MAX_LINES;
 pub const MAX_PAYLOAD: usize = 65535;
 
 // L is outside 12 to 45.
+#[tactic(auto, unfolding(rules::specs::Picture::legal_size))]
 pub fn illegal(l: usize) -> bool
     ensures { result ≡ not (legal_size l) }
 {
-    if l < MIN_SIZE {
-        return true;
-    }
-    if MAX_SIZE < l {
-        return true;
-    }
-    false
+    l < MIN_SIZE || MAX_SIZE < l
 }
 
 // A message of n bytes is above 65,535.

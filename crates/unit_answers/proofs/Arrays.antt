@@ -1,13 +1,11 @@
 -- Blocks, numbers and addresses side by side: one place, a store, the length.
 use Prim.Native.Nat.{ℕ, zero, suc, ◌+◌, ◌<◌, ◌≤◌, min}
 use mathlib.Core.Path.{◌≡◌, refl, sym, ◌∙◌, ap}
-use mathlib.Core.Bool.{Bool, true, false, cond}
-use mathlib.Core.List.{List, [], ◌∷◌, ◌++◌, append-nil}
+use mathlib.Core.List.{List, [], ◌∷◌, ◌++◌}
 use native.Mathlib.Nat.{not-suc-le-zero, le_of_suc-le-suc}
 use native.Mathlib.Omega.{arith}
 use lib.ListN.{length, get_or, set, drop, drop_of_length-le}
-use lib.Seq.{set_out}
-use Rattle.laws.specs.Views.{firsts, firsts_length, firsts_few, firsts_here, firsts_set, firsts_push, firsts_min}
+use Rattle.laws.specs.Views.{firsts, firsts_length, firsts_here, firsts_push, firsts_min}
 use Rattle.rules_unit.specs.Slave.{Known}
 use Rattle.unit_answers.specs.View.{known_of, zip_known, known_from}
 
@@ -62,14 +60,6 @@ module _ (cap : ℕ) (bs ns ads : List ℕ) (h : length bs ≡ cap) (k : length 
   pub known_past : (c i : ℕ) → min c cap ≤ i → drop i (known_from c bs ns ads) ≡ []
   known_past c i m = drop_of_length-le (known_from c bs ns ads) {i = i} (omega (arith, known_length c))
 
-  -- a store behind the first c does not show
-  known_behind : (c b n a : ℕ) → known_from c (set bs c b) (set ns c n) (set ads c a) ≡ known_from c bs ns ads
-  unfolding known_from
-  known_behind c b n a =
-      let ks = firsts (λ (a : Known). a) c (zip_known bs ns ads) in
-      ap (firsts (λ (a : Known). a) c) (zip_set c bs ns ads b n a) ∙ firsts_set (λ (a : Known). a) c c (known_of b n a) (zip_known bs ns ads)
-      ∙ set_out ks c (known_of b n a) (firsts_few (λ (a : Known). a) c (zip_known bs ns ads))
-
   -- one more answer
   pub known_push : (c b n a : ℕ) → c < cap
       → known_from (c + 1) (set bs c b) (set ns c n) (set ads c a) ≡ known_from c bs ns ads ++ known_of b n a ∷ []
@@ -77,9 +67,3 @@ module _ (cap : ℕ) (bs ns ads : List ℕ) (h : length bs ≡ cap) (k : length 
   known_push c b n a m =
       ap (firsts (λ (a : Known). a) (c + 1)) (zip_set c bs ns ads b n a)
       ∙ firsts_push (λ (a : Known). a) c (known_of b n a) (zip_known bs ns ads) (omega (arith, zip_length))
-
-  -- an answer stored behind them, and counted unless it goes
-  pub known_next : {e : ℕ} (goes : Bool) (c b n a : ℕ) → c < cap → e ≡ cond goes 0 1
-      → known_from (c + e) (set bs c b) (set ns c n) (set ads c a) ≡ known_from c bs ns ads ++ cond goes [] (known_of b n a ∷ [])
-  known_next true c b n a m f = let z : c + 0 ≡ c = omega arith in rw (f, z) (known_behind c b n a ∙ sym (append-nil (known_from c bs ns ads)))
-  known_next false c b n a m f = rw f (known_push c b n a m)

@@ -1,39 +1,42 @@
 -- Answers kept and dropped: one turn at a time, and the newest.
-use Prim.Native.Nat.{ℕ, ◌+◌, ◌-◌, ◌≤◌}
+use Prim.Native.Nat.{ℕ, ◌+◌, ◌-◌, ◌≤◌, ◌<◌}
 use mathlib.Core.Path.{◌≡◌, refl, sym, ◌∙◌, ap}
 use mathlib.Core.Bool.{Bool, true, false, cond, not}
 use mathlib.Core.List.{List, [], ◌∷◌, ◌++◌, append_assoc, append-nil}
 use native.Mathlib.Omega.{arith}
-use lib.ListN.{length, drop, length-drop}
+use lib.ListN.{length, drop, get_or}
 use Rattle.laws.specs.Lists.{select}
 use Rattle.rules.specs.House.{max_answers}
 use Rattle.rules.specs.Picture.{Pair, holds}
 use Rattle.rules.specs.Event.{read_pairs}
 use Rattle.rules_unit.specs.Slave.{Known, besides, newest, remember}
 use Rattle.wire_pairs.specs.View.{pair_of}
-use Rattle.unit_answers.specs.View.{known_of}
 
--- fewer than two bytes are no pair
-few : (b : List ℕ) → length b ≤ 1 → read_pairs b ≡ []
+-- two bytes are a pair in front of those behind them; fewer are none
+pub read_on : (two rest : List ℕ) {b : List ℕ} → b ≡ two ++ rest → length two ≡ 2
+    → read_pairs b ≡ pair_of (get_or two 0 0) (get_or two 1 0) ∷ read_pairs rest
+unfolding read_pairs pair_of
+read_on [] rest e h = absurd (omega arith)
+read_on (x ∷ []) rest e h = absurd (omega arith)
+read_on (x ∷ y ∷ []) rest e h = ap read_pairs e
+read_on (x ∷ y ∷ z ∷ two) rest e h = absurd (omega arith)
+
+pub read_few : (b : List ℕ) → length b < 2 → read_pairs b ≡ []
 unfolding read_pairs
-few [] h = refl
-few (x ∷ []) h = refl
-few (x ∷ y ∷ b) h = absurd (omega arith)
-
-pub read_past : (b : List ℕ) (at : ℕ) → length b ≤ at + 1 → read_pairs (drop at b) ≡ []
-read_past b at h = few (drop at b) (omega (arith, length-drop at b))
+read_few [] h = refl
+read_few (x ∷ []) h = refl
+read_few (x ∷ y ∷ b) h = absurd (omega arith)
 
 -- the answers that stay, one at a time: those found so far, and those of the rest
-pub besides_on : (found next : List Known) {ks rest : List Known} (b n a : ℕ) (ps : List Pair) {whole : List Known} → ks ≡ known_of b n a ∷ rest
-    → next ≡ found ++ cond (holds ps (pair_of b n)) [] (known_of b n a ∷ []) → found ++ besides ps ks ≡ whole → next ++ besides ps rest ≡ whole
-unfolding besides select known_of
-besides_on found next {ks} {rest} b n a ps e f h =
-    let g = holds ps (pair_of b n) in
-    let kept = cond g [] (known_of b n a ∷ []) in
-    ap (λ (l : List Known). l ++ besides ps rest) f ∙ append_assoc found kept (besides ps rest)
-    ∙ ap (λ (l : List Known). found ++ l) (go g ∙ sym (ap (besides ps) e)) ∙ h
+pub besides_on : (found next : List Known) {ks rest : List Known} {k : Known} (ps : List Pair) {g : Bool} {whole : List Known} → ks ≡ k ∷ rest
+    → g ≡ holds ps k.pair → next ≡ found ++ cond g [] (k ∷ []) → found ++ besides ps ks ≡ whole → next ++ besides ps rest ≡ whole
+unfolding besides select
+besides_on found next {ks} {rest} {k} ps {g} e h f w =
+    ap (λ (l : List Known). l ++ besides ps rest) f ∙ append_assoc found (cond g [] (k ∷ [])) (besides ps rest)
+    ∙ ap (λ (l : List Known). found ++ l)
+    (go g ∙ ap (λ (b : Bool). cond (not b) (k ∷ besides ps rest) (besides ps rest)) h ∙ sym (ap (besides ps) e)) ∙ w
   where
-    go : (g : Bool) → cond g [] (known_of b n a ∷ []) ++ besides ps rest ≡ cond (not g) (known_of b n a ∷ besides ps rest) (besides ps rest)
+    go : (b : Bool) → cond b [] (k ∷ []) ++ besides ps rest ≡ cond (not b) (k ∷ besides ps rest) (besides ps rest)
     go true = refl
     go false = refl
 
@@ -60,7 +63,7 @@ pub moved_end : (found : List Known) {ks : List Known} {whole : List Known} → 
 moved_end found e h = sym (append-nil found) ∙ sym (ap (λ (l : List Known). found ++ l) e) ∙ h
 
 -- one answer more: the others, as many of the newest as leave a place, and it
-pub remembered : (b n a : ℕ) (ks : List Known) {others kept next : List Known} → others ≡ besides (read_pairs (b ∷ n ∷ [])) ks → kept ≡ newest (max_answers - 1) others
-    → next ≡ kept ++ known_of b n a ∷ [] → next ≡ remember (known_of b n a) ks
-unfolding remember read_pairs pair_of known_of
-remembered b n a ks e f g = g ∙ ap (λ (l : List Known). l ++ known_of b n a ∷ []) (f ∙ ap (newest (max_answers - 1)) e)
+pub remembered : (k : Known) (ks : List Known) {others kept next : List Known} → others ≡ besides (read_pairs (k.pair.block ∷ k.pair.number ∷ [])) ks
+    → kept ≡ newest (max_answers - 1) others → next ≡ kept ++ k ∷ [] → next ≡ remember k ks
+unfolding remember read_pairs
+remembered k ks e f g = g ∙ ap (λ (l : List Known). l ++ k ∷ []) (f ∙ ap (newest (max_answers - 1)) e)

@@ -2,11 +2,15 @@
 use Rattle.std.specs.Prelude.{ℕ, List, [], ◌∷◌}
 use Rattle.laws.specs.Views.{firsts}
 use Rattle.rules_unit.specs.Slave.{Known}
-use Rattle.wire_pairs.specs.View.{pair_of}
+use Rattle.wire_pairs.specs.View.{pair_of, pair_in}
+use Rattle.unit_answers.specs.declared.Known as code
 use Rattle.unit_answers.specs.declared.DecentralRegistry.{DecentralRegistry}
 
 unfoldable pub known_of : (block number address : ℕ) → Known
 known_of b n a = record { pair = pair_of b n; address = a }
+
+unfoldable pub known_in : code.Known → Known
+known_in k = record { pair = pair_in k.pair; address = k.address.0 }
 
 -- blocks, numbers and addresses side by side
 unfoldable pub zip_known : (blocks numbers addresses : List ℕ) → List Known

@@ -1,19 +1,27 @@
 // The look-up answers that a unit keeps.
 #![tactic(auto)]
 
-ghost use Rattle.std.specs.Prelude.{◌≡◌, cond, [], ◌-◌, ◌≤◌, min};
+ghost use Rattle.std.specs.Prelude.{◌≡◌, [], ◌∷◌, ◌++◌, ◌+◌, ◌-◌, ◌<◌, ◌≤◌, min, length, drop};
 ghost use Rattle.rules.specs.House.{max_answers};
 ghost use Rattle.rules.specs.Picture.{holds};
 ghost use Rattle.rules.specs.Event.{read_pairs};
 ghost use Rattle.rules_unit.specs.Slave.{besides, newest, remember};
-ghost use Rattle.wire_pairs.specs.View.{pair_of};
-ghost use Rattle.unit_answers.specs.View.{known_of, answers_of};
+ghost use Rattle.wire_pairs.specs.View.{pair_in};
+ghost use Rattle.unit_answers.specs.View.{known_in, answers_of};
 
 use sizes::MAX_ANSWERS;
 use wire_address::LogicalNodeAddress;
-use wire_pairs::PAIR;
+use wire_pairs::{PAIR, Pair};
+
+// A look-up answer: a pair, and the address that it has.
+#[derive(Clone, Copy, PartialEq, Eq)]
+pub struct Known {
+    pub pair: Pair,
+    pub address: LogicalNodeAddress,
+}
 
 // The answers, the oldest first: the first `count` places of each array. The standard calls it a decentral registry.
+// C interface: a count and three arrays, in this order.
 #[repr(C)]
 #[derive(Clone, Copy)]
 pub struct DecentralRegistry {
@@ -24,29 +32,19 @@ pub struct DecentralRegistry {
 }
 
 // The pair stands in these bytes.
-fn names(named: &[u8], block: u8, number: u8) -> bool
-    ensures { result ≡ holds (read_pairs named.now) (pair_of block number) }
+fn names(named: &[u8], pair: Pair) -> bool
+    ensures { result ≡ holds (read_pairs named.now) (pair_in pair) }
 {
-    let n = named.len() / PAIR;
-    let mut i = 0;
-    while i < n {
-        let at = PAIR * i;
-        if wire_pairs::same(block, number, named[at], named[at + 1]) {
+    for bytes in named.chunks_exact(PAIR) {
+        let here = Pair {
+            block: bytes[0],
+            number: bytes[1],
+        };
+        if pair == here {
             return true;
         }
-        i += 1;
     }
     false
-}
-
-// How many places an answer takes that is kept unless its pair is named.
-fn one_unless(named: &[u8], block: u8, number: u8) -> usize
-    ensures { (result ≡ cond (holds (read_pairs named.now) (pair_of block number)) 0 1) × (result ≤ 1) }
-{
-    if names(named, block, number) {
-        return 0;
-    }
-    1
 }
 
 impl DecentralRegistry {
@@ -63,69 +61,72 @@ impl DecentralRegistry {
     }
 
     // How many answers there are.
-    pub fn len(self) -> usize
-        ensures { result ≡ min self.count max_answers }
+    pub fn len(&self) -> usize
+        ensures { (result ≡ min self.now.count max_answers) × (length (answers_of self.now) ≡ result) }
     {
-        let n = self.count;
-        if n < MAX_ANSWERS {
-            return n;
+        self.count.min(MAX_ANSWERS)
+    }
+
+    // The answer at a place: it stands in front of those behind it.
+    fn at(&self, place: usize) -> Known
+        requires { place < min self.now.count max_answers }
+        ensures { drop place (answers_of self.now) ≡ known_in result ∷ drop (place + 1) (answers_of self.now) }
+    {
+        Known {
+            pair: Pair {
+                block: self.blocks[place],
+                number: self.numbers[place],
+            },
+            address: LogicalNodeAddress(self.addresses[place]),
         }
-        MAX_ANSWERS
+    }
+
+    // Another answer, behind these.
+    fn push(&mut self, known: Known)
+        requires { self.old.count < max_answers }
+        ensures { (answers_of self.new ≡ answers_of self.old ++ known_in known ∷ []) × (self.new.count ≡ self.old.count + 1) }
+    {
+        self.addresses[self.count] = known.address.0;
+        self.blocks[self.count] = known.pair.block;
+        self.numbers[self.count] = known.pair.number;
+        self.count += 1;
     }
 
     // The answers for other pairs than those that stand in these bytes.
-    pub fn besides(self, named: &[u8]) -> DecentralRegistry
-        ensures { (answers_of result ≡ besides (read_pairs named.now) (answers_of self)) × (result.count ≤ max_answers) }
+    pub fn besides(&self, named: &[u8]) -> DecentralRegistry
+        ensures { (answers_of result ≡ besides (read_pairs named.now) (answers_of self.now)) × (result.count ≤ max_answers) }
     {
-        let n = self.len();
         let mut left = DecentralRegistry::none();
-        let mut end = 0;
-        let mut i = 0;
-        while i < n {
-            let block = self.blocks[i];
-            let number = self.numbers[i];
-            left.addresses[end] = self.addresses[i];
-            left.blocks[end] = block;
-            left.numbers[end] = number;
-            end += one_unless(named, block, number);
-            i += 1;
+        for i in 0..self.len() {
+            let known = self.at(i);
+            if !names(named, known.pair) {
+                left.push(known);
+            }
         }
-        left.count = end;
         left
     }
 
     // The answers without the oldest, where there is no place for one more.
-    fn with_room(self) -> DecentralRegistry
-        ensures { (answers_of result ≡ newest (max_answers - 1) (answers_of self)) × (result.count ≤ max_answers - 1) }
+    fn with_room(&self) -> DecentralRegistry
+        ensures { (answers_of result ≡ newest (max_answers - 1) (answers_of self.now)) × (result.count ≤ max_answers - 1) }
     {
-        if self.count < MAX_ANSWERS {
-            return self;
+        if self.len() < MAX_ANSWERS {
+            return *self;
         }
         let mut later = DecentralRegistry::none();
-        let mut i = 0;
-        while i < MAX_ANSWERS - 1 {
-            let from = i + 1;
-            later.addresses[i] = self.addresses[from];
-            later.blocks[i] = self.blocks[from];
-            later.numbers[i] = self.numbers[from];
-            i += 1;
+        for i in 1..MAX_ANSWERS {
+            later.push(self.at(i));
         }
-        later.count = i;
         later
     }
 
     // One answer more, the newest; an earlier one for the same pair goes, and if there is no place, the oldest one.
-    pub fn remember(self, block: u8, number: u8, address: LogicalNodeAddress) -> DecentralRegistry
-        ensures { (answers_of result ≡ remember (known_of block number address.0) (answers_of self)) × (result.count ≤ max_answers) }
+    pub fn remember(&self, known: Known) -> DecentralRegistry
+        ensures { (answers_of result ≡ remember (known_in known) (answers_of self.now)) × (result.count ≤ max_answers) }
     {
-        let pair = [block, number];
-        let others = self.besides(&pair);
+        let others = self.besides(&[known.pair.block, known.pair.number]);
         let mut next = others.with_room();
-        let at = next.count;
-        next.addresses[at] = address.0;
-        next.blocks[at] = block;
-        next.numbers[at] = number;
-        next.count = at + 1;
+        next.push(known);
         next
     }
 }

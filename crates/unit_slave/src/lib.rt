@@ -105,7 +105,7 @@ impl NetworkSlave {
             unit: NetworkSlave::unread(
                 position,
                 address,
-                wire_events::read_pairs(pairs, 0, n / PAIR),
+                wire_events::read_pairs(pairs),
             ),
         }
     }
@@ -174,7 +174,7 @@ impl NetworkSlave {
         let position = self.position;
         let address = self.address;
         let pairs = self.pairs;
-        let length = wire_answers::write_answer(out, self.pass, position, address, pairs);
+        let length = wire_answers::write_answer(out, self.pass, position, address, &pairs);
         OrderRead {
             number: DONE,
             length,
@@ -247,11 +247,11 @@ impl NetworkSlave {
         if out.len() < MIN_ANSWER_ROOM {
             return self.hand_back(ORDER_ROOM_TOO_SHORT);
         }
-        let sent = wire_order_reading::decode_order(order);
+        let Some(sent) = wire_order_reading::decode_order(order) else {
+            return self.hand_back(RECORD_MALFORMED);
+        };
         let pass = sent.pass;
-        let what = sent.order;
-        match what {
-            Order::Malformed => self.hand_back(RECORD_MALFORMED),
+        match sent.order {
             Order::Ask(position) => self.asked(pass, position, out),
             Order::Set {
                 position,

@@ -6,12 +6,12 @@ ghost use Rattle.rules.specs.Picture.{in_range};
 
 // A node position: where a unit sits in the ring.
 #[repr(C)]
-#[derive(Clone, Copy)]
+#[derive(Clone, Copy, PartialEq, Eq)]
 pub struct NodePosition(pub u8);
 
 // A logical node address: what a unit announces.
 #[repr(C)]
-#[derive(Clone, Copy)]
+#[derive(Clone, Copy, PartialEq, Eq)]
 pub struct LogicalNodeAddress(pub u16);
 
 // The addresses that a unit may announce.
@@ -24,14 +24,7 @@ impl LogicalNodeAddress {
     pub fn in_range(self) -> bool
         ensures { result ≡ in_range self.0 }
     {
-        let a = self.0;
-        if a < NODE_ADDRESS_MIN {
-            return false;
-        }
-        if NODE_ADDRESS_MAX < a {
-            return false;
-        }
-        true
+        NODE_ADDRESS_MIN <= self.0 && self.0 <= NODE_ADDRESS_MAX
     }
 
     // The two are one address.

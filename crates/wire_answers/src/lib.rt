@@ -38,14 +38,12 @@ pub fn write_answer(
     pass: u32,
     position: NodePosition,
     address: LogicalNodeAddress,
-    pairs: Pairs,
+    pairs: &Pairs,
 ) -> usize
-    requires { length (encode_event (event.ANSWER pass position.0 address.0 (pairs_of pairs))) ≤ length out.old }
-    ensures { Wrote out.old 0 (encode_event (event.ANSWER pass position.0 address.0 (pairs_of pairs))) result out.new }
+    requires { length (encode_event (event.ANSWER pass position.0 address.0 (pairs_of pairs.now))) ≤ length out.old }
+    ensures { Wrote out.old 0 (encode_event (event.ANSWER pass position.0 address.0 (pairs_of pairs.now))) result out.new }
 {
     let count = pairs.len();
-    let blocks = pairs.blocks;
-    let numbers = pairs.numbers;
     let body = write_head(out, pass, position, address, count as u8);
-    wire_orders::write_pairs(out, body, &blocks, &numbers, 0, count)
+    wire_orders::write_pairs(out, body, &pairs.blocks[..count], &pairs.numbers[..count])
 }

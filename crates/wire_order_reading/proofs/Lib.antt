@@ -1,3 +1,2 @@
 -- Laws that several functions' proofs use.
 pub mod Lengths
-pub mod Tests

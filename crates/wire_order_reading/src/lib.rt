@@ -3,7 +3,7 @@
 
 ghost use Rattle.std.specs.Prelude.{◌≡◌, get_or};
 ghost use Rattle.rules_unit.specs.Reading.{length_by, order_length, order_by, decode_order};
-ghost use Rattle.wire_order_reading.specs.View.{no_order, order_of, set_in, record_of};
+ghost use Rattle.wire_order_reading.specs.View.{order_of, order_in, set_in, record_in};
 
 use wire_address::{LogicalNodeAddress, NodePosition};
 use wire_orders::{
@@ -15,10 +15,9 @@ use wire_pairs::PAIR;
 // Where the pairs of a NEW or an INVALID begin.
 pub const PAIRS: usize = HEAD + COUNT;
 
-// An order, or bytes that are none. The pairs of a NEW and of an INVALID stay in the bytes, from `PAIRS` on.
+// An order. The pairs of a NEW and of an INVALID stay in the bytes, from `PAIRS` on.
 #[derive(Clone, Copy)]
 pub enum Order {
-    Malformed,
     Ask(NodePosition),
     Set {
         position: NodePosition,
@@ -35,7 +34,7 @@ pub enum Order {
     WaitLong,
 }
 
-// An order, and the pass that it carries; beside bytes that are no order the pass is left open.
+// An order, and the pass that it carries.
 #[derive(Clone, Copy)]
 pub struct OrderRecord {
     pub pass: u32,
@@ -46,29 +45,19 @@ pub struct OrderRecord {
 fn byte_at(bytes: &[u8], at: usize) -> u8
     ensures { result ≡ get_or bytes.now at 0 }
 {
-    if at < bytes.len() {
-        return bytes[at];
-    }
-    0
+    bytes.get(at).copied().unwrap_or(0)
 }
 
 // How long an order is, by its kind and by the count behind its pass.
 fn length_by(kind: u8, count: u8) -> usize
     ensures { result ≡ length_by kind count }
 {
-    if kind == ASK {
-        return HEAD + ASK_BODY;
+    match kind {
+        ASK => HEAD + ASK_BODY,
+        SET => HEAD + SET_BODY,
+        NEW | INVALID => PAIRS + PAIR * usize::from(count),
+        _ => HEAD,
     }
-    if kind == SET {
-        return HEAD + SET_BODY;
-    }
-    if kind == NEW {
-        return PAIRS + PAIR * count as usize;
-    }
-    if kind == INVALID {
-        return PAIRS + PAIR * count as usize;
-    }
-    HEAD
 }
 
 // How many bytes an order has that begins with these.
@@ -95,61 +84,35 @@ fn set_in(bytes: &[u8]) -> Order
 }
 
 // What an order of this kind says.
-fn order_by(kind: u8, bytes: &[u8]) -> Order
-    ensures { order_of result bytes.now ≡ order_by kind bytes.now }
+fn order_by(kind: u8, bytes: &[u8]) -> Option<Order>
+    ensures { order_in result bytes.now ≡ order_by kind bytes.now }
 {
-    if kind == ASK {
-        return Order::Ask(NodePosition(byte_at(bytes, HEAD)));
-    }
-    if kind == SET {
-        return set_in(bytes);
-    }
-    if kind == OK {
-        return Order::Ok;
-    }
-    if kind == NOTOK {
-        return Order::NotOk;
-    }
-    if kind == NEW {
-        return Order::New;
-    }
-    if kind == INVALID {
-        return Order::Invalid;
-    }
-    if kind == WAIT_SHORT {
-        return Order::WaitShort;
-    }
-    if kind == WAIT_LONG {
-        return Order::WaitLong;
-    }
-    Order::Malformed
-}
-
-// Bytes that are no order.
-fn malformed() -> OrderRecord
-    ensures { (result.pass ≡ 0) × (result.order ≡ no_order) }
-{
-    OrderRecord {
-        pass: 0,
-        order: Order::Malformed,
+    match kind {
+        ASK => Some(Order::Ask(NodePosition(byte_at(bytes, HEAD)))),
+        SET => Some(set_in(bytes)),
+        OK => Some(Order::Ok),
+        NOTOK => Some(Order::NotOk),
+        NEW => Some(Order::New),
+        INVALID => Some(Order::Invalid),
+        WAIT_SHORT => Some(Order::WaitShort),
+        WAIT_LONG => Some(Order::WaitLong),
+        _ => None,
     }
 }
 
-// What an order's bytes say.
-pub fn decode_order(bytes: &[u8]) -> OrderRecord
-    ensures { record_of result bytes.now ≡ decode_order bytes.now }
+// What an order's bytes say, if they are an order.
+pub fn decode_order(bytes: &[u8]) -> Option<OrderRecord>
+    ensures { record_in result bytes.now ≡ decode_order bytes.now }
 {
     if bytes.len() != order_length(bytes) {
-        return malformed();
+        return None;
     }
-    if bytes[0] != MARK_FIRST {
-        return malformed();
+    if bytes[0] != MARK_FIRST || bytes[1] != MARK_SECOND {
+        return None;
     }
-    if bytes[1] != MARK_SECOND {
-        return malformed();
-    }
-    OrderRecord {
+    let order = order_by(bytes[KIND], bytes)?;
+    Some(OrderRecord {
         pass: wire_octets::read4(bytes, PASS),
-        order: order_by(bytes[KIND], bytes),
-    }
+        order,
+    })
 }

@@ -1,20 +1,19 @@
 -- Orders as bytes: what a few stores write, and the bytes of an order that lists pairs.
-use Prim.Native.Nat.{ℕ, zero, suc, ◌+◌, ◌*◌, ◌≤◌, ◌<◌, min}
+use Prim.Native.Nat.{ℕ, ◌+◌, ◌*◌, ◌≤◌, ◌<◌, min}
 use mathlib.Core.Path.{◌≡◌, refl, sym, ◌∙◌, ap}
 use mathlib.Core.List.{List, [], ◌∷◌, ◌++◌, append-nil}
 use native.Mathlib.Numerals.{towards_suc}
 use native.Mathlib.Omega.{arith}
-use lib.ListN.{length, get_or, set, take, drop, length-drop}
-use lib.Seq.{sets, take-nil}
+use lib.ListN.{length, get_or, set, drop, drop_of_length-le}
+use lib.Seq.{sets}
 use Rattle.laws.specs.Buffers.{Wrote, wrote_append, wrote_along}
 use Rattle.laws.specs.Lists.{collect}
-use Rattle.laws.specs.Views.{firsts, take_firsts}
 use Rattle.rules.specs.Picture.{Pair}
 use Rattle.rules.specs.Event.{two, four, pair_bytes}
 use Rattle.rules.specs.Order.{Order, kind_of, body_of, encode}
-use Rattle.wire_pairs.specs.View.{pair_of, zip_pairs, pairs_from}
-use Rattle.wire_pairs.proofs.Arrays.{first_here, first_length, first_past}
-use Rattle.wire_orders.specs.View.{notice_of, delta_of, head_bytes, head_size, pair_size, list_size, part}
+use Rattle.wire_pairs.specs.View.{pair_of, zip_pairs}
+use Rattle.wire_pairs.proofs.Arrays.{zip_here, zip_short}
+use Rattle.wire_orders.specs.View.{notice_of, delta_of, head_bytes, head_size, pair_size, list_size}
 use Rattle.wire_orders.specs.declared.Notice.{Notice}
 use Rattle.wire_orders.specs.declared.Notice.TheVariants as notices
 use Rattle.wire_orders.specs.declared.Delta.{Delta}
@@ -102,29 +101,13 @@ pairs_size (a ∷ rest) = let e = pairs_size rest in omega arith
 pub delta_length : (pass : ℕ) (d : Delta) (ps : List Pair) → length (encode pass (delta_of d ps)) ≡ list_size (length ps)
 delta_length pass d ps = omega (arith, order_length_lem pass (delta_of d ps), ap length (delta_body d ps), pairs_size ps)
 
--- the first n of those from i on
-take_drop : (i n : ℕ) (ps : List Pair) → take n (drop i ps) ≡ drop i (take (i + n) ps)
-take_drop zero n ps = let e : 0 + n ≡ n = omega arith in rw e refl
-take_drop (suc i) n [] = let e : suc i + n ≡ suc (i + n) = omega arith in rw e (take-nil n)
-take_drop (suc i) n (a ∷ rest) = let e : suc i + n ≡ suc (i + n) = omega arith in rw e (take_drop i n rest)
-
--- pairs of two arrays: one turn of writing those from i up to `to`, and the end
+-- pairs of two slices: one turn of writing those from i on, and the end
 module _ (bs ns : List ℕ) where
-  pub pairs_on : (i to : ℕ) → i < to → to ≤ min (length bs) (length ns)
-      → collect pair_bytes (drop i (pairs_from to bs ns)) ≡ (get_or bs i 0 ∷ get_or ns i 0 ∷ []) ++ collect pair_bytes (drop (i + 1) (pairs_from to bs ns))
+  pub pairs_on : (i : ℕ) → i < min (length bs) (length ns)
+      → collect pair_bytes (drop i (zip_pairs bs ns)) ≡ (get_or bs i 0 ∷ get_or ns i 0 ∷ []) ++ collect pair_bytes (drop (i + 1) (zip_pairs bs ns))
   unfolding collect pair_bytes pair_of
-  pairs_on i to l m = ap (collect pair_bytes) (first_here bs ns to i l (omega arith) (omega arith))
+  pairs_on i h = ap (collect pair_bytes) (zip_here bs ns i (omega arith) (omega arith))
 
-  pub pairs_end : (i to : ℕ) → to ≤ i → collect pair_bytes (drop i (pairs_from to bs ns)) ≡ []
+  pub pairs_end : (i : ℕ) → min (length bs) (length ns) ≤ i → collect pair_bytes (drop i (zip_pairs bs ns)) ≡ []
   unfolding collect
-  pairs_end i to h = ap (collect pair_bytes) (first_past bs ns to i (omega arith))
-
-  -- a part has as many pairs as it is asked for, and is the same of all pairs and of the first c
-  pub part_length : (from n : ℕ) → from + n ≤ min (length bs) (length ns) → length (part from n bs ns) ≡ n
-  part_length from n h = omega (arith, length-drop from (pairs_from (from + n) bs ns), first_length bs ns (from + n))
-
-  pub part_same : (c from n : ℕ) → from + n ≤ c → take n (drop from (pairs_from c bs ns)) ≡ part from n bs ns
-  unfolding pairs_from
-  part_same c from n h =
-      let ps = zip_pairs bs ns in
-      take_drop from n (firsts (λ (a : Pair). a) c ps) ∙ ap (drop from) (take_firsts (λ (a : Pair). a) (from + n) c ps h)
+  pairs_end i h = ap (collect pair_bytes) (drop_of_length-le (zip_pairs bs ns) {i = i} (omega (arith, zip_short bs ns)))

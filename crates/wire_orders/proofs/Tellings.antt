@@ -4,17 +4,17 @@ use mathlib.Core.Path.{◌≡◌, refl, sym, ◌∙◌, ap, subst}
 use mathlib.Core.List.{List, [], ◌∷◌, ◌++◌, map}
 use native.Mathlib.Nat.{not-suc-le-zero}
 use native.Mathlib.Omega.{arith}
-use lib.ListN.{length, length-append, take, drop, length-drop}
+use lib.ListN.{length, length-append, take, drop, length-drop, length-take}
 use lib.Seq.{drop-drop}
 use Rattle.laws.specs.Buffers.{Wrote, Owes, owes_on, wrote_along}
 use Rattle.laws.specs.Lists.{collect}
 use Rattle.rules.specs.Picture.{Pair}
 use Rattle.rules.specs.Order.{Order, encode, encode_all}
 use Rattle.rules.specs.Ending.{packed, tell}
-use Rattle.wire_pairs.specs.View.{pairs_from}
-use Rattle.wire_pairs.proofs.Arrays.{first_length}
-use Rattle.wire_orders.proofs.Bytes.{delta_length, part_length, part_same}
-use Rattle.wire_orders.specs.View.{delta_of, list_size, part}
+use Rattle.wire_pairs.specs.View.{zip_pairs}
+use Rattle.wire_pairs.proofs.Arrays.{zip_short, zip_take, zip_drop}
+use Rattle.wire_orders.proofs.Bytes.{delta_length}
+use Rattle.wire_orders.specs.View.{delta_of, list_size}
 use Rattle.wire_orders.specs.declared.Delta.{Delta}
 
 -- enough orders are enough, however many more there could be
@@ -91,30 +91,39 @@ module _ (pass : ℕ) where
     unfolding tell packed encode_all collect
     tell_end e = ap (λ (l : List Pair). encode_all pass (tell order size l)) e
 
--- pairs of two arrays: n of those held, from i on, as many as fit or all that are left, are one order
-module _ (pass : ℕ) (d : Delta) (size : ℕ) (bs ns : List ℕ) (c held i n : ℕ) (s : 3 ≤ size) (g : held ≡ min c (min (length bs) (length ns))) (h : i < held)
+-- pairs of two slices: n of those held, from i on, as many as fit or all that are left, are one order
+module _ (pass : ℕ) (d : Delta) (size : ℕ) (bs ns : List ℕ) (held i n : ℕ) (s : 3 ≤ size) (g : held ≡ min (length bs) (length ns)) (h : i < held)
     (e : n ≡ min ((size - 1) / 2) (held - i)) where
   -- the pairs, how many they are, and the part that the order lists
   abbrev pairs : List Pair
-  pairs = pairs_from c bs ns
+  pairs = zip_pairs bs ns
 
   all : length pairs ≡ held
-  all = first_length bs ns c ∙ sym g
+  all = zip_short bs ns ∙ sym g
 
-  same : take n (drop i pairs) ≡ part i n bs ns
-  same = part_same bs ns c i n (omega arith)
+  many : (xs : List ℕ) → held ≤ length xs → length (take ((i + n) - i) (drop i xs)) ≡ n
+  many xs l = omega (arith, length-take ((i + n) - i) (drop i xs), length-drop i xs)
+
+  pub part_size : min (length (take ((i + n) - i) (drop i bs))) (length (take ((i + n) - i) (drop i ns))) ≡ n
+  part_size = omega (arith, many bs (omega arith), many ns (omega arith))
+
+  same : zip_pairs (take ((i + n) - i) (drop i bs)) (take ((i + n) - i) (drop i ns)) ≡ take n (drop i pairs)
+  same =
+      let k : (i + n) - i ≡ n = omega arith in
+      rw k (zip_take n (drop i bs) (drop i ns) ∙ ap (take n) (zip_drop i bs ns))
 
   -- how long the order is
   size_of : length (encode pass (delta_of d (take n (drop i pairs)))) ≡ list_size n
-  size_of = delta_length pass d (take n (drop i pairs)) ∙ ap list_size (ap length same ∙ part_length bs ns i n (omega arith))
+  size_of = delta_length pass d (take n (drop i pairs)) ∙ ap list_size (omega (arith, length-take n (drop i pairs), length-drop i pairs, all))
 
   -- room for it, and the pairs behind it still owed
   pub part_room : {b f : List ℕ} {at j l : ℕ} {whole : List ℕ} → Owes b at whole j f (encode_all pass (tell (delta_of d) size (drop i pairs)))
       → at + length whole ≤ l → j + list_size n ≤ l
   part_room {j = j} {l = l} w k = subst (λ (m : ℕ). j + m ≤ l) size_of (tell_room pass (delta_of d) size n i pairs s (rw all h) (rw all e) w k)
 
-  pub part_turn : {b f g : List ℕ} {at j k : ℕ} {whole : List ℕ} → Wrote f j (encode pass (delta_of d (part i n bs ns))) k g
+  pub part_turn : {b f g : List ℕ} {at j k : ℕ} {whole : List ℕ}
+      → Wrote f j (encode pass (delta_of d (zip_pairs (take ((i + n) - i) (drop i bs)) (take ((i + n) - i) (drop i ns))))) k g
       → Owes b at whole j f (encode_all pass (tell (delta_of d) size (drop i pairs)))
       → Owes b at whole k g (encode_all pass (tell (delta_of d) size (drop (i + n) pairs)))
   part_turn v =
-      tell_turn pass (delta_of d) size n i pairs s (rw all h) (rw all e) (wrote_along (ap (λ (ps : List Pair). encode pass (delta_of d ps)) (sym same)) v)
+      tell_turn pass (delta_of d) size n i pairs s (rw all h) (rw all e) (wrote_along (ap (λ (ps : List Pair). encode pass (delta_of d ps)) same) v)

@@ -1,9 +1,8 @@
 -- What the code's orders stand for, and the parts that they are written in.
-use Rattle.std.specs.Prelude.{ℕ, ◌+◌, ◌*◌, List, ◌∷◌, drop}
+use Rattle.std.specs.Prelude.{ℕ, ◌+◌, ◌*◌, List, ◌∷◌}
 use Rattle.rules.specs.Picture.{Pair}
 use Rattle.rules.specs.Event.{four}
 use Rattle.rules.specs.Order.{Order, OK, NOTOK, NEW, INVALID, WAIT_SHORT, WAIT_LONG}
-use Rattle.wire_pairs.specs.View.{pairs_from}
 use Rattle.wire_orders.specs.declared.Notice.{Notice}
 use Rattle.wire_orders.specs.declared.Notice.TheVariants as notices
 use Rattle.wire_orders.specs.declared.Delta.{Delta}
@@ -35,7 +34,3 @@ pair_size = 2
 -- an order that lists n pairs: head, count and pairs
 abbrev pub list_size : (n : ℕ) → ℕ
 list_size n = head_size + 1 + pair_size * n
-
--- the n pairs from `from` on, of blocks and numbers side by side
-abbrev pub part : (from n : ℕ) → (blocks numbers : List ℕ) → List Pair
-part from n bs ns = drop from (pairs_from (from + n) bs ns)

@@ -1,4 +1,4 @@
-// Orders: each written into a lent buffer from a place on; the place behind it is handed back.
+// Orders: each written into a lent buffer from a place on. The place behind it is handed back, since the next order is written there.
 #![tactic(auto)]
 
 ghost use Rattle.std.specs.Prelude.{◌≡◌, ◌+◌, ◌*◌, ◌≤◌, ◌<◌, min, [], length};
@@ -8,8 +8,8 @@ ghost use Rattle.rules.specs.Event.{pair_bytes};
 ghost use Rattle.rules.specs.Order as order;
 ghost use Rattle.rules.specs.Order.{kind_of, encode, encode_all};
 ghost use Rattle.rules.specs.Ending.{tell};
-ghost use Rattle.wire_pairs.specs.View.{pairs_from, pairs_of};
-ghost use Rattle.wire_orders.specs.View.{notice_of, delta_of, head_bytes, head_size, pair_size, list_size, part};
+ghost use Rattle.wire_pairs.specs.View.{zip_pairs, pairs_of};
+ghost use Rattle.wire_orders.specs.View.{notice_of, delta_of, head_bytes, head_size, pair_size, list_size};
 
 use wire_address::{LogicalNodeAddress, NodePosition};
 use wire_pairs::{PAIR, Pairs};
@@ -106,8 +106,7 @@ pub fn write_notice(out: &mut [u8], at: usize, pass: u32, notice: Notice) -> usi
     requires { at + length (encode pass (notice_of notice)) ≤ length out.old }
     ensures { Wrote out.old at (encode pass (notice_of notice)) result out.new }
 {
-    let kind = notice_kind(notice);
-    write_head(out, at, kind, pass)
+    write_head(out, at, notice_kind(notice), pass)
 }
 
 // ASK: a question goes by position.
@@ -153,41 +152,21 @@ fn delta_kind(delta: Delta) -> u8
     }
 }
 
-// The lesser of two numbers.
-fn least(a: usize, b: usize) -> usize
-    ensures { result ≡ min a b }
+// The bytes of the pairs of two slices.
+pub fn write_pairs(out: &mut [u8], at: usize, blocks: &[u8], numbers: &[u8]) -> usize
+    requires { at + pair_size * min (length blocks.now) (length numbers.now) ≤ length out.old }
+    ensures { Wrote out.old at (collect pair_bytes (zip_pairs blocks.now numbers.now)) result out.new }
 {
-    if a < b {
-        return a;
-    }
-    b
-}
-
-// The bytes of `n` pairs, those from `from` on.
-pub fn write_pairs(
-    out: &mut [u8],
-    at: usize,
-    blocks: &[u8],
-    numbers: &[u8],
-    from: usize,
-    n: usize,
-) -> usize
-    requires { (from + n ≤ min (length blocks.now) (length numbers.now)) × (at + pair_size * n ≤ length out.old) }
-    ensures { Wrote out.old at (collect pair_bytes (part from n blocks.now numbers.now)) result out.new }
-{
-    let to = from + n;
     let mut end = at;
-    let mut i = from;
-    while i < to {
+    for i in 0..blocks.len().min(numbers.len()) {
         out[end] = blocks[i];
         out[end + 1] = numbers[i];
         end += PAIR;
-        i += 1;
     }
     end
 }
 
-// One order NEW or INVALID, with `n` pairs, those from `from` on.
+// One order NEW or INVALID, with the pairs of two slices.
 fn write_part(
     out: &mut [u8],
     at: usize,
@@ -195,44 +174,39 @@ fn write_part(
     delta: Delta,
     blocks: &[u8],
     numbers: &[u8],
-    from: usize,
-    n: usize,
 ) -> usize
-    requires { (n < 256) × (from + n ≤ min (length blocks.now) (length numbers.now)) × (at + list_size n ≤ length out.old) }
-    ensures { Wrote out.old at
-        (encode pass (delta_of delta (part from n blocks.now numbers.now))) result out.new }
+    requires { (min (length blocks.now) (length numbers.now) < 256) × (at + list_size (min (length blocks.now) (length numbers.now)) ≤ length out.old) }
+    ensures { Wrote out.old at (encode pass (delta_of delta (zip_pairs blocks.now numbers.now))) result out.new }
 {
-    let kind = delta_kind(delta);
-    let body = write_head(out, at, kind, pass);
-    out[body] = n as u8;
-    write_pairs(out, body + COUNT, blocks, numbers, from, n)
+    let body = write_head(out, at, delta_kind(delta), pass);
+    out[body] = blocks.len().min(numbers.len()) as u8;
+    write_pairs(out, body + COUNT, blocks, numbers)
 }
 
-// NEW or INVALID: the first `count` pairs of two slices, in their order, as many orders as L asks for; none for no pairs.
-pub fn write_deltas<'a>(
+// NEW or INVALID: the pairs of two slices, in their order, as many orders as L asks for; none for no pairs.
+pub fn write_deltas(
     out: &mut [u8],
     at: usize,
     pass: u32,
     delta: Delta,
     size: u8,
-    blocks: &'a [u8],
-    numbers: &'a [u8],
-    count: usize,
+    blocks: &[u8],
+    numbers: &[u8],
 ) -> usize
     requires { (3 ≤ size)
-        × (at + length (encode_all pass (tell (delta_of delta) size (pairs_from count blocks.now numbers.now))) ≤ length out.old) }
+        × (at + length (encode_all pass (tell (delta_of delta) size (zip_pairs blocks.now numbers.now))) ≤ length out.old) }
     ensures { Wrote out.old at
-        (encode_all pass (tell (delta_of delta) size (pairs_from count blocks.now numbers.now))) result out.new }
+        (encode_all pass (tell (delta_of delta) size (zip_pairs blocks.now numbers.now))) result out.new }
 {
     let most = (size as usize - COUNT) / PAIR;
-    let held = least(count, least(blocks.len(), numbers.len()));
+    let held = blocks.len().min(numbers.len());
     let mut end = at;
     let mut from = 0;
+    // No `for`: a turn goes on by as many pairs as its order lists, fewer in the last.
     while from < held {
-        let n = least(most, held - from);
-        let next = write_part(out, end, pass, delta, blocks, numbers, from, n);
-        end = next;
-        from += n;
+        let to = from + most.min(held - from);
+        end = write_part(out, end, pass, delta, &blocks[from..to], &numbers[from..to]);
+        from = to;
     }
     end
 }
@@ -244,12 +218,19 @@ pub fn write_delta(
     pass: u32,
     delta: Delta,
     size: u8,
-    pairs: Pairs,
+    pairs: &Pairs,
 ) -> usize
-    requires { (3 ≤ size) × (at + length (encode_all pass (tell (delta_of delta) size (pairs_of pairs))) ≤ length out.old) }
-    ensures { Wrote out.old at (encode_all pass (tell (delta_of delta) size (pairs_of pairs))) result out.new }
+    requires { (3 ≤ size) × (at + length (encode_all pass (tell (delta_of delta) size (pairs_of pairs.now))) ≤ length out.old) }
+    ensures { Wrote out.old at (encode_all pass (tell (delta_of delta) size (pairs_of pairs.now))) result out.new }
 {
-    let blocks = pairs.blocks;
-    let numbers = pairs.numbers;
-    write_deltas(out, at, pass, delta, size, &blocks, &numbers, pairs.count)
+    let n = pairs.len();
+    write_deltas(
+        out,
+        at,
+        pass,
+        delta,
+        size,
+        &pairs.blocks[..n],
+        &pairs.numbers[..n],
+    )
 }

@@ -2,10 +2,14 @@
 use Rattle.std.specs.Prelude.{ℕ, List, [], ◌∷◌}
 use Rattle.laws.specs.Views.{firsts}
 use Rattle.rules.specs.Picture.{Pair}
+use Rattle.wire_pairs.specs.declared.Pair as code
 use Rattle.wire_pairs.specs.declared.Pairs.{Pairs}
 
 unfoldable pub pair_of : (block number : ℕ) → Pair
 pair_of b n = record { block = b; number = n }
+
+unfoldable pub pair_in : code.Pair → Pair
+pair_in p = pair_of p.block p.number
 
 -- blocks and numbers side by side
 unfoldable pub zip_pairs : (blocks numbers : List ℕ) → List Pair

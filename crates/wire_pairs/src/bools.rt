@@ -5,8 +5,5 @@ ghost use Rattle.std.specs.Prelude.{◌≡◌, ◌||◌};
 pub fn either(a: bool, b: bool) -> bool
     ensures { result ≡ a || b }
 {
-    if a {
-        return true;
-    }
-    b
+    a || b
 }

@@ -3,18 +3,26 @@
 
 pub mod bools; // bools.rt: tests put together
 
-ghost use Rattle.std.specs.Prelude.{◌≡◌, cond, not, [], ◌≤◌, min, take, drop};
+ghost use Rattle.std.specs.Prelude.{◌≡◌, cond, [], ◌∷◌, ◌++◌, ◌+◌, ◌<◌, ◌≤◌, min, length, take, drop};
 ghost use Rattle.rules.specs.House.{max_pairs};
 ghost use Rattle.rules.specs.Picture.{same_pair, holds};
 ghost use Rattle.rules.specs.Ending.{missing};
-ghost use Rattle.wire_pairs.specs.View.{pair_of, pairs_of};
+ghost use Rattle.wire_pairs.specs.View.{pair_of, pair_in, pairs_of};
 
 use sizes::MAX_PAIRS;
 
 // A pair takes two bytes of a record or an order: block and number.
 pub const PAIR: usize = 2;
 
+// One pair.
+#[derive(Clone, Copy, PartialEq, Eq)]
+pub struct Pair {
+    pub block: u8,
+    pub number: u8,
+}
+
 // The first `count` places hold pairs.
+// C interface: a count and two arrays, in this order.
 #[repr(C)]
 #[derive(Clone, Copy)]
 pub struct Pairs {
@@ -27,10 +35,7 @@ pub struct Pairs {
 pub fn same(block: u8, number: u8, other_block: u8, other_number: u8) -> bool
     ensures { result ≡ same_pair (pair_of block number) (pair_of other_block other_number) }
 {
-    if block == other_block {
-        return number == other_number;
-    }
-    false
+    block == other_block && number == other_number
 }
 
 // By how many pairs a list grows: by one where the pair is kept.
@@ -55,76 +60,73 @@ impl Pairs {
     }
 
     // How many pairs there are.
-    pub fn len(self) -> usize
-        ensures { result ≡ min self.count max_pairs }
+    pub fn len(&self) -> usize
+        ensures { (result ≡ min self.now.count max_pairs) × (length (pairs_of self.now) ≡ result) }
     {
-        let n = self.count;
-        if n < MAX_PAIRS {
-            return n;
+        self.count.min(MAX_PAIRS)
+    }
+
+    // The pair at a place: it stands in front of those behind it.
+    pub fn at(&self, place: usize) -> Pair
+        requires { place < min self.now.count max_pairs }
+        ensures { drop place (pairs_of self.now) ≡ pair_in result ∷ drop (place + 1) (pairs_of self.now) }
+    {
+        Pair {
+            block: self.blocks[place],
+            number: self.numbers[place],
         }
-        MAX_PAIRS
+    }
+
+    // Another pair, behind these.
+    pub fn push(&mut self, pair: Pair)
+        requires { self.old.count < max_pairs }
+        ensures { (pairs_of self.new ≡ pairs_of self.old ++ pair_in pair ∷ []) × (self.new.count ≡ self.old.count + 1) }
+    {
+        self.blocks[self.count] = pair.block;
+        self.numbers[self.count] = pair.number;
+        self.count += 1;
     }
 
     // The first of these pairs, at most `count`.
-    pub fn first(mut self, count: usize) -> Self
-        ensures { pairs_of result ≡ take count (pairs_of self) }
+    pub fn first(&self, count: usize) -> Self
+        ensures { pairs_of result ≡ take count (pairs_of self.now) }
     {
-        if count < self.count {
-            self.count = count;
-            return self;
+        Pairs {
+            count: self.count.min(count),
+            ..*self
         }
-        self
     }
 
     // The pair is one of those from a place on.
-    pub fn holds_from(self, place: usize, block: u8, number: u8) -> bool
-        ensures { result ≡ holds (drop place (pairs_of self)) (pair_of block number) }
+    pub fn holds_from(&self, place: usize, pair: Pair) -> bool
+        ensures { result ≡ holds (drop place (pairs_of self.now)) (pair_in pair) }
     {
-        let n = self.len();
-        let mut i = place;
-        while i < n {
-            if same(block, number, self.blocks[i], self.numbers[i]) {
+        for i in place..self.len() {
+            if pair == self.at(i) {
                 return true;
             }
-            i += 1;
         }
         false
     }
 
     // The pair is one of these.
-    pub fn holds(self, block: u8, number: u8) -> bool
-        ensures { result ≡ holds (pairs_of self) (pair_of block number) }
+    pub fn holds(&self, pair: Pair) -> bool
+        ensures { result ≡ holds (pairs_of self.now) (pair_in pair) }
     {
-        self.holds_from(0, block, number)
-    }
-
-    // The pair is none of these.
-    fn lacks(self, block: u8, number: u8) -> bool
-        ensures { result ≡ not (holds (pairs_of self) (pair_of block number)) }
-    {
-        if self.holds(block, number) {
-            return false;
-        }
-        true
+        self.holds_from(0, pair)
     }
 
     // The pairs that `other` does not hold.
-    pub fn missing(self, other: Pairs) -> Pairs
-        ensures { pairs_of result ≡ missing (pairs_of self) (pairs_of other) }
+    pub fn missing(&self, other: &Pairs) -> Pairs
+        ensures { pairs_of result ≡ missing (pairs_of self.now) (pairs_of other.now) }
     {
-        let n = self.len();
         let mut left = Pairs::none();
-        let mut end = 0;
-        let mut i = 0;
-        while i < n {
-            let block = self.blocks[i];
-            let number = self.numbers[i];
-            left.blocks[end] = block;
-            left.numbers[end] = number;
-            end += one_if(other.lacks(block, number));
-            i += 1;
+        for i in 0..self.len() {
+            let pair = self.at(i);
+            if !other.holds(pair) {
+                left.push(pair);
+            }
         }
-        left.count = end;
         left
     }
 }

@@ -1,34 +1,21 @@
 -- At every turn the lines that are left make the whole.
-use Prim.Native.Nat.{◌+◌}
-use mathlib.Core.Path.{ap}
+use mathlib.Core.Path.{refl, ap}
+use Rattle.std.specs.Prelude.{None}
 use native.Mathlib.Omega.{arith}
-use lib.ListN.{drop, get_or, length, length-append}
-use Rattle.rules_diff.specs.Differences.{lines_at}
-use Rattle.diff_rows.specs.Gathering.{seen_in}
-use Rattle.diff_lines.specs.Comparing.{seen, lines_over}
-use Rattle.diff_lines.proofs.Positions.{behind, same_many, turn, over}
-use borrow.Author.Rules.{rules}
+use lib.ListN.{length}
+use Rattle.std.proofs.lemmas.Slice.Zip.{either_empty_from_Zip}
+use Rattle.diff_lines.proofs.Positions.{over_end, count_on}
 use Rattle.diff_lines.proofs.count_lines.Goals as goal
 
-pub loop-i-init : goal.loop-i-init
-loop-i-init c = (omega arith, omega arith, search rules, search rules, omega arith)
-
-pub loop-i-preserved : goal.loop-i-preserved
-loop-i-preserved c =
-    let a = c.args in
-    let w = c.loop-i.invariant in
-    let i = c.loop-i.i in
-    let z = c.count-n.ensures in
-    let before = seen_in (get_or a.before i behind) in
-    let after = seen_in (get_or a.after i behind) in
-    let e = ap length (turn a.before a.after w.2 w.3 i (omega (arith, c.loop-i-test.true))) in
-    let f = length-append (lines_at (i + 1) before after) (lines_over (i + 1 + 1) (drop (i + 1) (seen a.before)) (drop (i + 1) (seen a.after))) in
-    let g = same_many (i + 1) 0 before after in
-    (omega (arith, w.0, z.1), omega (arith, c.loop-i-test.true), w.2, w.3, omega (arith, w.4, z.0))
+pub loop-first-preserved : goal.loop-first-preserved
+loop-first-preserved c =
+    let w = c.loop-first.invariant in
+    let z = c.in-Some.ensures.steps in
+    let few = ap length z.0 in
+    ((tt, tt), tt, omega (arith, few, w.2, c.count-n.ensures.1), count_on _ z.0 z.1 c.count-n.ensures.0 w.3)
 
 pub returns : goal.returns
 returns c =
-    let a = c.args in
-    let w = c.loop-i.invariant in
-    let e = ap length (over a.before a.after c.loop-i.i (omega (arith, c.loop-i-test.false))) in
-    (omega (arith, w.4), omega (arith, w.0, w.1))
+    let w = c.loop-first.invariant in
+    let none = ap length (over_end 1 (either_empty_from_Zip c.loop-first.first-iterator c.next.new.self None refl c.in-None.ensures.steps)) in
+    (omega (arith, none, w.3), omega (arith, w.2))

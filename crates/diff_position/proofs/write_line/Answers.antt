@@ -26,4 +26,4 @@ pub shape_of-out : goal.shape_of-out
 shape_of-out c = simp length-set (simp length-set at c.write2.auto.buffer)
 
 pub returns : goal.returns
-returns c = wrote_line _ _ _ _ _ _ _ c.write2.ensures
+returns c = wrote_line _ _ c.args.line c.number.ensures c.write2.ensures

@@ -1,31 +1,18 @@
--- Each reason by its law.
-use Prim.Native.Nat.{◌≤◌}
-use mathlib.Core.Path.{refl, sym, ◌∙◌, ap}
-use native.Mathlib.Omega.{arith}
+-- A row that does not fit, and a pair that stands twice.
+use mathlib.Core.Path.{sym, ◌∙◌, ap}
+use mathlib.Core.Bool.{not}
 use borrow.Author.Rules.{rules}
 use Rattle.laws.specs.Bools.{clash}
-use Rattle.rules.specs.House.{max_units, max_pairs}
 use Rattle.rules_diff.specs.Differences.{twice}
-use Rattle.diff_rows.proofs.Seats.{bad_low, bad_high, bad_many, bad_twice}
+use Rattle.diff_rows.proofs.Seats.{unfit_bad, fit, bad_twice}
 use Rattle.diff_rows.proofs.is_bad.Goals as goal
 
-pub returns-then-position-lt1 : goal.returns-then-position-lt1
-returns-then-position-lt1 c =
-    (sym (bad_low c.args.row c.if-position-lt1.true), λ e. clash refl e)
+pub returns-then-not-fits : goal.returns-then-not-fits
+returns-then-not-fits c =
+    let e = unfit_bad c.args.row (search rules) (search rules) (sym c.fits.ensures ∙ c.if-not-fits.true) in
+    (ap not c.if-not-fits.true ∙ sym e, λ f. clash (ap not c.if-not-fits.true) f)
 
-pub returns-then-position-gt-MAX_UNITS : goal.returns-then-position-gt-MAX_UNITS
-returns-then-position-gt-MAX_UNITS c =
-    (sym (bad_high c.args.row c.if-position-gt-MAX_UNITS.true), λ e. clash refl e)
-
-pub returns-then-entry-gt-MAX_PAIRS : goal.returns-then-entry-gt-MAX_PAIRS
-returns-then-entry-gt-MAX_PAIRS c =
-    let row = c.args.row in
-    (sym (bad_many row (search rules) (search rules) c.if-entry-gt-MAX_PAIRS.true), λ e. clash refl e)
-
-pub returns : goal.returns
-returns c =
-    let row = c.args.row in
-    let low : 1 ≤ row.position.0 = omega arith in
-    let high : row.position.0 ≤ max_units = omega arith in
-    let few : row.entry.count ≤ max_pairs = omega arith in
-    (c.twice.ensures ∙ ap twice c.pairs.ensures ∙ sym (bad_twice row low high few), λ e. (low, high, few))
+pub returns-else-not-fits : goal.returns-else-not-fits
+returns-else-not-fits c =
+    let b = fit c.args.row (sym c.fits.ensures ∙ c.if-not-fits.false) in
+    (c.twice.ensures ∙ ap twice c.pairs.ensures ∙ sym (bad_twice c.args.row b.0 b.1 b.2), λ e. b)

@@ -1,14 +1,9 @@
 -- A search: what is left to look at decides.
-use Prim.Native.Nat.{◌-◌}
 use mathlib.Core.Path.{◌≡◌}
-use lib.ListN.{drop, length}
-use Rattle.rules.specs.House.{max_pairs}
+use lib.ListN.{drop}
 use Rattle.rules_diff.specs.Differences.{twice}
 use Rattle.wire_pairs.specs.View.{pairs_of}
 use Rattle.diff_rows.proofs.twice.Given as goal
 
 abbrev pub invariant-loop-i : goal.invariant-loop-i
-invariant-loop-i l = (length l.pairs.blocks ≡ max_pairs) × (length l.pairs.numbers ≡ max_pairs) × (twice (drop l.i (pairs_of l.pairs)) ≡ twice (pairs_of l.pairs))
-
-abbrev pub decreases-loop-i : goal.decreases-loop-i
-decreases-loop-i l = l.n - l.i
+invariant-loop-i l = twice (drop l.i (pairs_of l.pairs)) ≡ twice (pairs_of l.pairs)

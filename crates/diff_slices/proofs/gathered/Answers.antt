@@ -9,17 +9,17 @@ use Rattle.row_node.specs.declared.NodeRow.{NodeRow}
 use Rattle.diff_rows.specs.Gathering.{Gathering, gathering_of, gathered_all}
 use Rattle.diff_slices.proofs.gathered.Goals as goal
 
-pub loop-i-preserved : goal.loop-i-preserved
+pub loop-row-preserved : goal.loop-row-preserved
 unfolding gathered_all
-loop-i-preserved c =
+loop-row-preserved c =
     let rows = c.args.rows.now in
-    let i = c.loop-i.i in
-    ap (λ (g : Gathering). gathered_all g (map node_row_of (drop (i + 1) rows))) c.with-all.ensures
-    ∙ sym (ap (λ (rs : List NodeRow). gathered_all (gathering_of c.loop-i.all) (map node_row_of rs)) (drop_here rows i _ c.loop-i-test.true))
-    ∙ c.loop-i.invariant
+    let i = c.loop-row.row-index in
+    ap (λ (g : Gathering). gathered_all g (map node_row_of (drop (i + 1) rows))) c.push.ensures
+    ∙ sym (ap (λ (rs : List NodeRow). gathered_all (gathering_of c.loop-row.all) (map node_row_of rs)) (drop_here rows i _ c.loop-row-test.true))
+    ∙ c.loop-row.invariant
 
 pub returns : goal.returns
 unfolding gathered_all
 returns c =
-    sym (ap (λ (rs : List NodeRow). gathered_all (gathering_of c.loop-i.all) (map node_row_of rs)) (drop_of_length-le c.args.rows.now c.loop-i-test.false))
-    ∙ c.loop-i.invariant
+    sym (ap (λ (rs : List NodeRow). gathered_all (gathering_of c.loop-row.all) (map node_row_of rs)) (drop_of_length-le c.args.rows.now c.loop-row-test.false))
+    ∙ c.loop-row.invariant

@@ -10,14 +10,14 @@ use Rattle.ring_ending.proofs.close.Goals as goal
 pub write_ok-told-requires : goal.write_ok-told-requires
 write_ok-told-requires c =
     let a = c.args in
-    let e = are_orders (state_of a.state.0) (runs a.delay.0) a.«open» a.silent a.short c.becomes_ok-ok.ensures c.settled-next.ensures.0 c.starts_delay-starts.ensures in
-    room_first a.pass (cond c.becomes_ok-ok.result (OK ∷ []) []) (cond c.starts_delay-starts.result (cond a.short WAIT_SHORT WAIT_LONG ∷ []) []) e a.at a.out.now c.requires
+    let e = are_orders (state_of a.state.0) (runs a.delay.0) a.seen.open a.seen.silent a.seen.short c.becomes_ok-ok.ensures c.settled-next.ensures.0 c.starts_delay-starts.ensures in
+    room_first a.pass (cond c.becomes_ok-ok.result (OK ∷ []) []) (cond c.starts_delay-starts.result (cond a.seen.short WAIT_SHORT WAIT_LONG ∷ []) []) e a.at a.out.now c.requires
 
 pub write_wait-end-requires : goal.write_wait-end-requires
 write_wait-end-requires c =
     let a = c.args in
-    let e = are_orders (state_of a.state.0) (runs a.delay.0) a.«open» a.silent a.short c.becomes_ok-ok.ensures c.settled-next.ensures.0 c.starts_delay-starts.ensures in
-    room_second a.pass (cond c.becomes_ok-ok.result (OK ∷ []) []) (cond c.starts_delay-starts.result (cond a.short WAIT_SHORT WAIT_LONG ∷ []) []) e a.at a.out.now c.requires c.write_ok-told.ensures
+    let e = are_orders (state_of a.state.0) (runs a.delay.0) a.seen.open a.seen.silent a.seen.short c.becomes_ok-ok.ensures c.settled-next.ensures.0 c.starts_delay-starts.ensures in
+    room_second a.pass (cond c.becomes_ok-ok.result (OK ∷ []) []) (cond c.starts_delay-starts.result (cond a.seen.short WAIT_SHORT WAIT_LONG ∷ []) []) e a.at a.out.now c.requires c.write_ok-told.ensures
 
 pub returns : goal.returns
 returns c =
@@ -28,10 +28,10 @@ returns c =
     let s = state_of a.state.0 in
     let d = runs a.delay.0 in (
       record {
-        state = is_state s d a.«open» a.silent a.short k t w;
-        delay = is_delay s d a.«open» a.silent a.short k t w c.delayed-runs.ensures.0;
-        wrote = wrote_both s d a.«open» a.silent a.short k t w a.pass c.write_ok-told.ensures c.write_wait-end.ensures;
+        state = is_state s d a.seen.open a.seen.silent a.seen.short k t w;
+        delay = is_delay s d a.seen.open a.seen.silent a.seen.short k t w c.delayed.ensures.0;
+        wrote = wrote_both s d a.seen.open a.seen.silent a.seen.short k t w a.pass c.write_ok-told.ensures c.write_wait-end.ensures;
       },
       c.settled-next.ensures.1,
-      c.delayed-runs.ensures.1,
+      c.delayed.ensures.1,
     )

@@ -11,6 +11,6 @@ pub returns-then-ok : goal.returns-then-ok
 returns-then-ok c =
     wrote_if c.args.pass OK c.args.ok c.if-ok.true c.write_notice.ensures
 
-pub returns : goal.returns
-returns c =
+pub returns-else-ok : goal.returns-else-ok
+returns-else-ok c =
     wrote_else c.args.pass OK c.args.ok c.args.out.now c.args.at c.if-ok.false

@@ -5,21 +5,20 @@ use borrow.Author.Tests.{eq-eqb, le-leb, lt-leb, ne_eqb}
 use lib.ListN.{get_or}
 use mathlib.Core.Path.{◌∙◌, ap}
 use Rattle.wire_events.proofs.decode.Goals as goal
+use Rattle.wire_events.proofs.decode.Goals.{then-bytes-ne-MARK_FIRST-via-then-bytes-ne-MARK_FIRST, then-bytes-ne-MARK_FIRST-via-else-bytes-ne-MARK_FIRST+then-bytes-ne-MARK_SECOND}
 
 pub returns-then-bytes-lt-HEAD : goal.returns-then-bytes-lt-HEAD
 unfolding decode
-returns-then-bytes-lt-HEAD c =
-    simp (c.plain.ensures.0, lt-leb _ _ c.if-bytes-lt-HEAD.true)
+returns-then-bytes-lt-HEAD c = simp (lt-leb _ _ c.if-bytes-lt-HEAD.true)
 
 pub returns-then-bytes-ne-MARK_FIRST : goal.returns-then-bytes-ne-MARK_FIRST
 unfolding decode
 returns-then-bytes-ne-MARK_FIRST c =
-    simp (c.plain-then-bytes-ne-MARK_FIRST.ensures.0, le-leb _ _ c.if-bytes-lt-HEAD.false, ne_eqb _ _ c.if-bytes-ne-MARK_FIRST.true)
-
-pub returns-then-bytes-ne-MARK_SECOND : goal.returns-then-bytes-ne-MARK_SECOND
-unfolding decode
-returns-then-bytes-ne-MARK_SECOND c =
-    simp (c.plain-then-bytes-ne-MARK_SECOND.ensures.0, le-leb _ _ c.if-bytes-lt-HEAD.false, eq-eqb _ _ c.if-bytes-ne-MARK_FIRST.false, ne_eqb _ _ c.if-bytes-ne-MARK_SECOND.true)
+    elim c.then-bytes-ne-MARK_FIRST.branch [
+      | then-bytes-ne-MARK_FIRST-via-then-bytes-ne-MARK_FIRST w ↦ simp (le-leb _ _ c.if-bytes-lt-HEAD.false, ne_eqb _ _ w.if-bytes-ne-MARK_FIRST.true)
+      | then-bytes-ne-MARK_FIRST-via-else-bytes-ne-MARK_FIRST+then-bytes-ne-MARK_SECOND w ↦
+          simp (le-leb _ _ c.if-bytes-lt-HEAD.false, eq-eqb _ _ w.if-bytes-ne-MARK_FIRST.false, ne_eqb _ _ w.if-bytes-ne-MARK_SECOND.true)
+    ]
 
 pub returns-then-kind-eq-ANSWER : goal.returns-then-kind-eq-ANSWER
 unfolding decode
@@ -29,7 +28,7 @@ returns-then-kind-eq-ANSWER c =
 pub returns-then-bytes-ne-HEAD : goal.returns-then-bytes-ne-HEAD
 unfolding decode
 returns-then-bytes-ne-HEAD c =
-    simp (c.plain-then-bytes-ne-HEAD.ensures.0, le-leb _ _ c.if-bytes-lt-HEAD.false, eq-eqb _ _ c.if-bytes-ne-MARK_FIRST.false, eq-eqb _ _ c.if-bytes-ne-MARK_SECOND.false, ne_eqb _ _ c.if-kind-eq-ANSWER.false, ne_eqb _ _ c.if-bytes-ne-HEAD.true)
+    simp (le-leb _ _ c.if-bytes-lt-HEAD.false, eq-eqb _ _ c.if-bytes-ne-MARK_FIRST.false, eq-eqb _ _ c.if-bytes-ne-MARK_SECOND.false, ne_eqb _ _ c.if-kind-eq-ANSWER.false, ne_eqb _ _ c.if-bytes-ne-HEAD.true)
 
 pub returns : goal.returns
 unfolding decode

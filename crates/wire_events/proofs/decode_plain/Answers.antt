@@ -1,45 +1,35 @@
 -- By the kind.
-use Rattle.rules.specs.Event.{check, decode_plain}
-use borrow.Author.Tests.{eq-eqb, ne_eqb}
-use mathlib.Core.Path.{◌∙◌, sym}
+use mathlib.Core.Bool.{Bool}
+use mathlib.Core.Path.{◌∙◌, ap}
+use native.Mathlib.Omega.{arith}
+use borrow.Author.Tests.{ne_eqb}
+use Rattle.rules.specs.Event.{START, NCE, SHUTDOWN, check, decode_plain}
+use Rattle.wire_events.specs.View.{event_in}
+use Rattle.wire_events.proofs.Readings.{checked}
 use Rattle.wire_events.proofs.decode_plain.Goals as goal
 
-pub returns-then-scan_fields_fit : goal.returns-then-scan_fields_fit
-unfolding decode_plain check
-returns-then-scan_fields_fit c =
-    simp (c.plain.ensures.0, eq-eqb _ _ c.if-kind-eq-START.true, sym c.scan_fields_fit.ensures ∙ c.if-scan_fields_fit.true)
-
-pub returns-then-kind-eq-START : goal.returns-then-kind-eq-START
-unfolding decode_plain check
-returns-then-kind-eq-START c =
-    simp (c.plain-then-kind-eq-START.ensures.0, eq-eqb _ _ c.if-kind-eq-START.true, sym c.scan_fields_fit.ensures ∙ c.if-scan_fields_fit.false)
-
-pub returns-then-scan_fields_fit-2 : goal.returns-then-scan_fields_fit-2
-unfolding decode_plain check
-returns-then-scan_fields_fit-2 c =
-    simp (c.plain-then-scan_fields_fit-2.ensures.0, ne_eqb _ _ c.if-kind-eq-START.false, eq-eqb _ _ c.if-kind-eq-NCE.true, sym c.scan_fields_fit-then-kind-eq-NCE.ensures ∙ c.if-scan_fields_fit-2.true)
-
-pub returns-then-kind-eq-NCE : goal.returns-then-kind-eq-NCE
-unfolding decode_plain check
-returns-then-kind-eq-NCE c =
-    simp (c.plain-then-kind-eq-NCE.ensures.0, ne_eqb _ _ c.if-kind-eq-START.false, eq-eqb _ _ c.if-kind-eq-NCE.true, sym c.scan_fields_fit-then-kind-eq-NCE.ensures ∙ c.if-scan_fields_fit-2.false)
-
-pub returns-then-kind-eq-SHUTDOWN : goal.returns-then-kind-eq-SHUTDOWN
+pub returns-in-1 : goal.returns-in-1
 unfolding decode_plain
-returns-then-kind-eq-SHUTDOWN c =
-    simp (ne_eqb _ _ c.if-kind-eq-START.false, ne_eqb _ _ c.if-kind-eq-NCE.false, eq-eqb _ _ c.if-kind-eq-SHUTDOWN.true) c.decode_shutdown.ensures
+returns-in-1 c = rw c.in-1.is (ap event_in c.then_some.ensures ∙ checked _ _ ∙ ap (λ (b : Bool). check b (START c.args.x)) c.scan_fields_fit.ensures)
 
-pub returns-then-kind-eq-NONE : goal.returns-then-kind-eq-NONE
+pub returns-in-2 : goal.returns-in-2
 unfolding decode_plain
-returns-then-kind-eq-NONE c =
-    simp (c.plain-then-kind-eq-NONE.ensures.0, ne_eqb _ _ c.if-kind-eq-START.false, ne_eqb _ _ c.if-kind-eq-NCE.false, ne_eqb _ _ c.if-kind-eq-SHUTDOWN.false, eq-eqb _ _ c.if-kind-eq-NONE.true)
+returns-in-2 c = rw c.in-2.is (ap event_in c.then_some-in-2.ensures ∙ checked _ _ ∙ ap (λ (b : Bool). check b (NCE c.args.x)) c.scan_fields_fit-in-2.ensures)
 
-pub returns-then-kind-eq-DELAY : goal.returns-then-kind-eq-DELAY
+pub returns-in-3 : goal.returns-in-3
 unfolding decode_plain
-returns-then-kind-eq-DELAY c =
-    simp (ne_eqb _ _ c.if-kind-eq-START.false, ne_eqb _ _ c.if-kind-eq-NCE.false, ne_eqb _ _ c.if-kind-eq-SHUTDOWN.false, ne_eqb _ _ c.if-kind-eq-NONE.false, eq-eqb _ _ c.if-kind-eq-DELAY.true) c.decode_delay.ensures
+returns-in-3 c = rw c.in-3.is (ap event_in c.then_some-in-3.ensures ∙ checked _ _ ∙ ap (λ (b : Bool). check b SHUTDOWN) c.are_unused.ensures)
 
-pub returns : goal.returns
+pub returns-in-5 : goal.returns-in-5
 unfolding decode_plain
-returns c =
-    simp (c.plain-2.ensures.0, ne_eqb _ _ c.if-kind-eq-START.false, ne_eqb _ _ c.if-kind-eq-NCE.false, ne_eqb _ _ c.if-kind-eq-SHUTDOWN.false, ne_eqb _ _ c.if-kind-eq-NONE.false, ne_eqb _ _ c.if-kind-eq-DELAY.false)
+returns-in-5 c = rw c.in-5.is
+
+pub returns-in-6 : goal.returns-in-6
+unfolding decode_plain
+returns-in-6 c = rw c.in-6.is (ap event_in c.then_some-in-6.ensures ∙ checked _ _)
+
+pub returns-in_default : goal.returns-in_default
+unfolding decode_plain
+returns-in_default c =
+    let k = c.args.kind in
+    simp (ne_eqb k 1 (λ e. omega (arith, e)), ne_eqb k 2 (λ e. omega (arith, e)), ne_eqb k 3 (λ e. omega (arith, e)), ne_eqb k 5 (λ e. omega (arith, e)), ne_eqb k 6 (λ e. omega (arith, e)))

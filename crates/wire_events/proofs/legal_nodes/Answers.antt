@@ -3,16 +3,10 @@ use Rattle.rules.specs.Event.{good_nodes}
 use borrow.Author.Tests.{le-leb, lt-leb}
 use Rattle.wire_events.proofs.legal_nodes.Goals as goal
 
-pub returns-then-n-lt1 : goal.returns-then-n-lt1
+pub returns-then-n-ge1 : goal.returns-then-n-ge1
 unfolding good_nodes
-returns-then-n-lt1 c = simp (lt-leb _ _ c.if-n-lt1.true)
+returns-then-n-ge1 c = simp (le-leb _ _ c.if-n-ge1.true)
 
-pub returns-then-n-gt-MAX_NODES : goal.returns-then-n-gt-MAX_NODES
+pub returns-else-n-ge1 : goal.returns-else-n-ge1
 unfolding good_nodes
-returns-then-n-gt-MAX_NODES c =
-    simp (le-leb _ _ c.if-n-lt1.false, lt-leb _ _ c.if-n-gt-MAX_NODES.true)
-
-pub returns : goal.returns
-unfolding good_nodes
-returns c =
-    simp (le-leb _ _ c.if-n-lt1.false, le-leb _ _ c.if-n-gt-MAX_NODES.false)
+returns-else-n-ge1 c = simp (lt-leb _ _ c.if-n-ge1.false)

@@ -1,33 +1,38 @@
 -- At every turn the pairs read so far and those that still stand there are all pairs.
-use Rattle.laws.specs.Views.{firsts}
-use Rattle.wire_pairs.proofs.Arrays.{pairs_push}
-use Rattle.wire_pairs.specs.View.{pairs_from, pairs_of}
-use Prim.Native.Nat.{ℕ, ◌*◌, ◌+◌}
-use Rattle.wire_events.proofs.Readings.{from_start, read_end, read_on}
-use borrow.Author.Rules.{rules}
-use lib.ListN.{length-set}
-use mathlib.Core.Path.{◌≡◌, ◌∙◌, ap, refl}
+use Prim.Native.Nat.{◌*◌, ◌+◌}
+use Rattle.rules.specs.Event.{read_pairs}
+use Rattle.std.proofs.Common.{length-append}
+use Rattle.wire_events.proofs.Readings.{read_firsts, read_on}
+use Rattle.wire_pairs.specs.View.{pair_in, pairs_of}
+use lib.ListN.{length}
+use mathlib.Core.List.{List, ◌++◌}
+use Rattle.rules.specs.Picture.{Pair}
+use mathlib.Core.Path.{ap}
 use native.Mathlib.Omega.{arith}
 use Rattle.wire_events.proofs.read_pairs.Goals as goal
 
 pub loop-i-init : goal.loop-i-init
-unfolding pairs_from firsts
-loop-i-init c = (omega arith, search rules, search rules, from_start c.args.bytes.now c.args.from)
+loop-i-init c =
+    let e = c.none-pairs.ensures.0 in
+    record {
+      count = c.none-pairs.ensures.1;
+      length = ap length e;
+      whole = ap (λ (l : List Pair). l ++ read_pairs c.args.bytes.now) e;
+    }
 
 pub loop-i-preserved : goal.loop-i-preserved
+unfolding pair_in
 loop-i-preserved c =
     let w = c.loop-i.invariant in
-    let p = c.loop-i.pairs in
     let i = c.loop-i.i in
-    (omega arith, simp length-set w.1, simp length-set w.2, read_on (pairs_from i p.blocks p.numbers) _ c.args.bytes.now (c.args.from + 2 * i) (c.args.from + 2 * (i + 1)) (omega arith) (omega arith) (pairs_push _ p.blocks p.numbers w.1 w.2 i _ _ (omega arith)) w.3)
+    let e = c.push.ensures.0 in
+    record {
+      count = omega (arith, c.push.ensures.1, w.count);
+      length = let f = simp length-append at (ap length e) in omega (arith, f, w.length);
+      whole = read_on (pairs_of c.loop-i.pairs) _ c.args.bytes.now (2 * i) (2 * (i + 1)) (omega arith) (omega arith) e w.whole;
+    }
 
 pub returns : goal.returns
-unfolding pairs_of
 returns c =
     let w = c.loop-i.invariant in
-    let p = c.loop-i.pairs in
-    let e : c.args.count ≡ c.loop-i.i = omega arith in (
-      ap (λ (k : ℕ). pairs_from k p.blocks p.numbers) e
-          ∙ read_end (pairs_from c.loop-i.i p.blocks p.numbers) c.args.bytes.now (c.args.from + 2 * c.loop-i.i) (omega arith) w.3,
-      refl,
-    )
+    (read_firsts _ c.loop-i.i c.args.bytes.now w.length w.whole (omega arith), omega arith)

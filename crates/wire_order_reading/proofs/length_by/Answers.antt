@@ -1,24 +1,22 @@
 -- By the kind.
 use Rattle.rules_unit.specs.Reading.{length_by}
-use Rattle.wire_order_reading.proofs.Tests.{tests}
+use Rattle.wire_order_reading.proofs.Lengths.{listing_length, plain_length}
+use native.Mathlib.Omega.{arith}
 use Rattle.wire_order_reading.proofs.length_by.Goals as goal
 
-pub returns-then-kind-eq-ASK : goal.returns-then-kind-eq-ASK
+pub returns-in-1 : goal.returns-in-1
 unfolding length_by
-returns-then-kind-eq-ASK c = search tests
+returns-in-1 c = rw c.in-1.is
 
-pub returns-then-kind-eq-SET : goal.returns-then-kind-eq-SET
+pub returns-in-2 : goal.returns-in-2
 unfolding length_by
-returns-then-kind-eq-SET c = search tests
+returns-in-2 c = rw c.in-2.is
 
-pub returns-then-kind-eq-NEW : goal.returns-then-kind-eq-NEW
-unfolding length_by
-returns-then-kind-eq-NEW c = search tests
+pub returns-in-5 : goal.returns-in-5
+returns-in-5 c = rw c.from.ensures (listing_length c.args.kind c.args.count (omega arith) (omega arith))
 
-pub returns-then-kind-eq-INVALID : goal.returns-then-kind-eq-INVALID
-unfolding length_by
-returns-then-kind-eq-INVALID c = search tests
+pub returns-in_default : goal.returns-in_default
+returns-in_default c = plain_length c.args.kind c.args.count (λ e. omega (arith, e)) (λ e. omega (arith, e)) (λ e. omega (arith, e)) (λ e. omega (arith, e))
 
-pub returns : goal.returns
-unfolding length_by
-returns c = search tests
+pub returns-in_default-2 : goal.returns-in_default-2
+returns-in_default-2 c = plain_length c.args.kind c.args.count (λ e. omega (arith, e)) (λ e. omega (arith, e)) (λ e. omega (arith, e)) (λ e. omega (arith, e))

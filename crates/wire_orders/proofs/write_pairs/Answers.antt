@@ -1,5 +1,4 @@
 -- At every turn the pairs that are left, written from here on, make the whole.
-use Prim.Native.Nat.{◌+◌}
 use Rattle.laws.specs.Buffers.{owes_end, owes_on, owes_start}
 use Rattle.wire_orders.proofs.Bytes.{pairs_end, pairs_on, wrote_two}
 use lib.ListN.{get_or, length-set}
@@ -9,10 +8,7 @@ use native.Mathlib.Omega.{arith}
 use Rattle.wire_orders.proofs.write_pairs.Goals as goal
 
 pub loop-i-init : goal.loop-i-init
-loop-i-init c = (omega arith, omega arith, refl, omega arith, owes_start _ _ _)
-
-pub bounds-out-end-in-loop-i : goal.bounds-out-end-in-loop-i
-bounds-out-end-in-loop-i c = simp length-set (omega arith)
+loop-i-init c = record { length = refl; place = omega arith; owes = owes_start _ _ _ }
 
 pub loop-i-preserved : goal.loop-i-preserved
 loop-i-preserved c =
@@ -20,9 +16,11 @@ loop-i-preserved c =
     let i = c.loop-i.i in
     let bs = c.args.blocks.now in
     let ns = c.args.numbers.now in
-    let turn = pairs_on bs ns i (c.args.from + c.args.n) (omega arith) (omega arith) in
-    (omega arith, omega arith, simp length-set w.2, omega arith, owes_on (get_or bs i 0 ∷ get_or ns i 0 ∷ []) turn (wrote_two _ _ _ _) w.4)
+    record {
+      length = simp length-set w.length;
+      place = omega arith;
+      owes = owes_on (get_or bs i 0 ∷ get_or ns i 0 ∷ []) (pairs_on bs ns i (omega arith)) (wrote_two _ _ _ _) w.owes;
+    }
 
 pub returns : goal.returns
-returns c =
-    owes_end (pairs_end c.args.blocks.now c.args.numbers.now c.loop-i.i (c.args.from + c.args.n) c.loop-i-test.false) c.loop-i.invariant.4
+returns c = owes_end (pairs_end c.args.blocks.now c.args.numbers.now c.loop-i.i (omega arith)) c.loop-i.invariant.owes

@@ -1,6 +1,7 @@
 -- The head, the count, and the pairs.
-use Rattle.wire_orders.proofs.Bytes.{head_end, part_length, wrote_delta}
-use Rattle.wire_orders.specs.View.{part}
+use Rattle.wire_orders.proofs.Bytes.{head_end, wrote_delta}
+use Rattle.wire_pairs.specs.View.{zip_pairs}
+use Rattle.wire_pairs.proofs.Arrays.{zip_short}
 use lib.ListN.{length-set}
 use mathlib.Core.Path.{◌∙◌, sym}
 use native.Mathlib.Omega.{arith}
@@ -16,7 +17,7 @@ overflow_add-body c =
 
 pub write_pairs-requires : goal.write_pairs-requires
 write_pairs-requires c =
-    (omega arith, simp length-set (omega (arith, head_end c.args.pass c.write_head-body.ensures, c.write_head-body.auto.out)))
+    simp length-set (omega (arith, head_end c.args.pass c.write_head-body.ensures, c.write_head-body.auto.out))
 
 pub shape_of-out : goal.shape_of-out
 shape_of-out c =
@@ -26,6 +27,4 @@ pub returns : goal.returns
 returns c =
     let bs = c.args.blocks.now in
     let ns = c.args.numbers.now in
-    let from = c.args.from in
-    let n = c.args.n in
-    wrote_delta c.args.pass n c.args.delta (part from n bs ns) c.delta_kind-kind.ensures (sym (part_length bs ns from n (omega arith))) c.write_head-body.ensures c.write_pairs.ensures
+    wrote_delta c.args.pass _ c.args.delta (zip_pairs bs ns) c.delta_kind.ensures (c.min.ensures ∙ sym (zip_short bs ns)) c.write_head-body.ensures c.write_pairs.ensures

@@ -8,6 +8,6 @@ pub returns-then-block-other_block : goal.returns-then-block-other_block
 unfolding same_pair pair_of
 returns-then-block-other_block c = simp (eq-eqb _ _ c.if-block-other_block.true)
 
-pub returns : goal.returns
+pub returns-else-block-other_block : goal.returns-else-block-other_block
 unfolding same_pair pair_of
-returns c = simp (ne_eqb _ _ c.if-block-other_block.false)
+returns-else-block-other_block c = simp (ne_eqb _ _ c.if-block-other_block.false)

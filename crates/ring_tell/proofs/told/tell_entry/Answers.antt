@@ -12,27 +12,27 @@ use Rattle.ring_tell.proofs.told.tell_entry.Goals as goal
 pub write_change-at-requires : goal.write_change-at-requires
 unfolding row_told
 write_change-at-requires c =
-    let losses : List Order = tell INVALID c.args.size (lost (row_of c.args.before) (row_of c.args.after)) in
-    let gains : List Order = tell NEW c.args.size (gained (row_of c.args.before) (row_of c.args.after)) in
-    (c.requires.0, told_room c.args.pass (state_of c.args.state.0) (losses) (gains) refl (sym c.is_ok.ensures ∙ c.if-is_ok.true) c.args.out.now c.requires.1)
+    let losses : List Order = tell INVALID c.args.size (lost (row_of c.args.before.now) (row_of c.args.after.now)) in
+    let gains : List Order = tell NEW c.args.size (gained (row_of c.args.before.now) (row_of c.args.after.now)) in
+    (c.requires.0, told_room c.args.pass (state_of c.args.state.0) (losses) (gains) refl (sym c.is_ok.ensures ∙ c.if-not-is_ok.false) c.args.out.now c.requires.1)
 
 pub write_change-requires : goal.write_change-requires
 unfolding row_told
 write_change-requires c =
-    let losses : List Order = tell INVALID c.args.size (lost (row_of c.args.before) (row_of c.args.after)) in
-    let gains : List Order = tell NEW c.args.size (gained (row_of c.args.before) (row_of c.args.after)) in
-    (c.requires.0, told_room_2 c.args.pass (state_of c.args.state.0) (losses) (gains) refl (sym c.is_ok.ensures ∙ c.if-is_ok.true) c.write_change-at.ensures c.requires.1)
-
-pub returns-then-is_ok : goal.returns-then-is_ok
-unfolding row_told
-returns-then-is_ok c =
-    let losses : List Order = tell INVALID c.args.size (lost (row_of c.args.before) (row_of c.args.after)) in
-    let gains : List Order = tell NEW c.args.size (gained (row_of c.args.before) (row_of c.args.after)) in
-    told_wrote c.args.pass (state_of c.args.state.0) (losses) (gains) refl (sym c.is_ok.ensures ∙ c.if-is_ok.true) c.write_change-at.ensures c.write_change.ensures
+    let losses : List Order = tell INVALID c.args.size (lost (row_of c.args.before.now) (row_of c.args.after.now)) in
+    let gains : List Order = tell NEW c.args.size (gained (row_of c.args.before.now) (row_of c.args.after.now)) in
+    (c.requires.0, told_room_2 c.args.pass (state_of c.args.state.0) (losses) (gains) refl (sym c.is_ok.ensures ∙ c.if-not-is_ok.false) c.write_change-at.ensures c.requires.1)
 
 pub returns : goal.returns
 unfolding row_told
 returns c =
-    let losses : List Order = tell INVALID c.args.size (lost (row_of c.args.before) (row_of c.args.after)) in
-    let gains : List Order = tell NEW c.args.size (gained (row_of c.args.before) (row_of c.args.after)) in
-    told_else c.args.pass (state_of c.args.state.0) (losses) (gains) refl c.args.out.now (sym c.is_ok.ensures ∙ c.if-is_ok.false)
+    let losses : List Order = tell INVALID c.args.size (lost (row_of c.args.before.now) (row_of c.args.after.now)) in
+    let gains : List Order = tell NEW c.args.size (gained (row_of c.args.before.now) (row_of c.args.after.now)) in
+    told_wrote c.args.pass (state_of c.args.state.0) (losses) (gains) refl (sym c.is_ok.ensures ∙ c.if-not-is_ok.false) c.write_change-at.ensures c.write_change.ensures
+
+pub returns-then-not-is_ok : goal.returns-then-not-is_ok
+unfolding row_told
+returns-then-not-is_ok c =
+    let losses : List Order = tell INVALID c.args.size (lost (row_of c.args.before.now) (row_of c.args.after.now)) in
+    let gains : List Order = tell NEW c.args.size (gained (row_of c.args.before.now) (row_of c.args.after.now)) in
+    told_else c.args.pass (state_of c.args.state.0) (losses) (gains) refl c.args.out.now (sym c.is_ok.ensures ∙ c.if-not-is_ok.true)

@@ -6,10 +6,10 @@ use Rattle.rules.specs.Renumber.{place_of}
 use borrow.Author.Tests.{ne_eqb}
 use Rattle.row_entry.proofs.NodeEntry.place.Goals as goal
 
-pub returns-then-status-eq-SETTING : goal.returns-then-status-eq-SETTING
+pub returns-then-self-eq-SETTING : goal.returns-then-self-eq-SETTING
 unfolding row_of place_of
-returns-then-status-eq-SETTING c = simp (by_mark place_of, c.if-status-eq-SETTING.true)
+returns-then-self-eq-SETTING c = simp (by_mark place_of, c.if-self-eq-SETTING.true)
 
-pub returns : goal.returns
+pub returns-else-self-eq-SETTING : goal.returns-else-self-eq-SETTING
 unfolding row_of place_of
-returns c = simp (by_mark place_of, ne_eqb _ _ c.if-status-eq-SETTING.false, cond_same)
+returns-else-self-eq-SETTING c = simp (by_mark place_of, ne_eqb _ _ c.if-self-eq-SETTING.false, cond_same)

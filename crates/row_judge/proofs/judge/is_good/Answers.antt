@@ -1,32 +1,27 @@
 -- The tests in their order.
-use Rattle.wire_pairs.specs.View.{pair_of}
-use Rattle.row_judge.specs.Marks.{is_good_marked}
 use Rattle.rules.specs.Picture.{Pair, holds}
-use borrow.Author.Tests.{le-leb, lt-leb}
+use Rattle.wire_pairs.specs.View.{pair_in, pair_of}
+use Rattle.row_judge.specs.Marks.{is_good_marked}
+use lib.Dec.{leb}
+use mathlib.Core.Bool.{◌&&◌}
 use mathlib.Core.List.{List}
-use mathlib.Core.Path.{◌∙◌, ap, sym}
+use mathlib.Core.Path.{◌∙◌, ◌≡◌, ap}
+use native.Mathlib.Omega.{arith}
 use Rattle.row_judge.proofs.judge.is_good.Goals as goal
+use Rattle.row_judge.proofs.judge.is_good.Goals.{then-contains, else-contains}
 
-pub returns-then-number-lt-MIN_NUMBER : goal.returns-then-number-lt-MIN_NUMBER
-unfolding is_good_marked pair_of
-returns-then-number-lt-MIN_NUMBER c = simp (lt-leb _ _ c.if-number-lt-MIN_NUMBER.true)
+pub returns-then-not-held : goal.returns-then-not-held
+unfolding is_good_marked pair_in pair_of
+returns-then-not-held c =
+    let allowed : c.contains.result ≡ leb 1 c.args.pair.number && leb c.args.pair.number 254 = grind (arith, c.contains.ensures.value, c.new.ensures) in
+    let earlier = c.holds.ensures ∙ ap (λ (l : List Pair). holds l (pair_in c.args.pair)) c.first.ensures in
+    grind (arith, allowed, earlier, c.if-not-held.true)
 
-pub returns-then-number-gt-MAX_NUMBER : goal.returns-then-number-gt-MAX_NUMBER
-unfolding is_good_marked pair_of
-returns-then-number-gt-MAX_NUMBER c =
-    simp (le-leb _ _ c.if-number-lt-MIN_NUMBER.false, lt-leb _ _ c.if-number-gt-MAX_NUMBER.true)
-
-pub returns-then-held : goal.returns-then-held
-unfolding is_good_marked pair_of
-returns-then-held c =
-    simp (le-leb _ _ c.if-number-lt-MIN_NUMBER.false, le-leb _ _ c.if-number-gt-MAX_NUMBER.false, c.if-held.true)
-
-pub returns-then-holds : goal.returns-then-holds
-unfolding is_good_marked pair_of
-returns-then-holds c =
-    simp (le-leb _ _ c.if-number-lt-MIN_NUMBER.false, le-leb _ _ c.if-number-gt-MAX_NUMBER.false, c.if-held.false, sym (c.holds.ensures ∙ ap (λ (l : List Pair). holds l (pair_of c.args.block c.args.number)) c.first.ensures) ∙ c.if-holds.true)
-
-pub returns : goal.returns
-unfolding is_good_marked pair_of
-returns c =
-    simp (le-leb _ _ c.if-number-lt-MIN_NUMBER.false, le-leb _ _ c.if-number-gt-MAX_NUMBER.false, c.if-held.false, sym (c.holds.ensures ∙ ap (λ (l : List Pair). holds l (pair_of c.args.block c.args.number)) c.first.ensures) ∙ c.if-holds.false)
+pub returns-else-not-held : goal.returns-else-not-held
+unfolding is_good_marked pair_in pair_of
+returns-else-not-held c =
+    let allowed : c.contains.result ≡ leb 1 c.args.pair.number && leb c.args.pair.number 254 = grind (arith, c.contains.ensures.value, c.new.ensures) in
+    elim c.if-contains.branch [
+      | then-contains w ↦ grind (arith, allowed, w, c.if-not-held.either)
+      | else-contains w ↦ grind (arith, allowed, w, c.if-not-held.either)
+    ]

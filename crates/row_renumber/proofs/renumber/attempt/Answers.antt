@@ -1,40 +1,26 @@
 -- The tests in their order.
-use Prim.Native.Nat.{ℕ}
-use Rattle.laws.specs.Lists.{collect}
-use Rattle.wire_pairs.specs.View.{pair_of, pairs_of}
-use Rattle.row_entry.specs.View.{rows_of}
+use Rattle.wire_pairs.specs.View.{pair_in, pair_of}
 use Rattle.row_renumber.proofs.Offers.{offers, offers_none}
-use Rattle.row_renumber.specs.Marks.{NoneFree, attempt_of, free_of}
-use Rattle.rules.specs.Picture.{pairs_in}
-use Rattle.rules.specs.Renumber.{free_number}
+use Rattle.row_renumber.specs.Marks.{attempt_of, free_for}
 use borrow.Author.Tests.{le-ltb}
-use mathlib.Core.Path.{◌∙◌, ap, subst, sym}
+use mathlib.Core.Path.{sym}
 use Rattle.row_renumber.proofs.renumber.attempt.Goals as goal
+use Rattle.row_renumber.proofs.renumber.attempt.Goals.{then-good-via-then-good, then-good-via-else-good+then-tries-ge-MAX_TRIES}
 
 pub returns-then-good : goal.returns-then-good
 unfolding attempt_of
 returns-then-good c =
-    let free = free_number (collect pairs_in (rows_of c.args.count c.args.entries)) (pairs_of c.args.announced) in
-    (c.passed.ensures.0 ∙ simp c.if-good.true, subst (λ (b : ℕ). NoneFree free b) (sym c.passed.ensures.1) c.requires)
+    elim c.then-good.branch [
+      | then-good-via-then-good w ↦ (simp w.if-good.true, c.requires)
+      | then-good-via-else-good+then-tries-ge-MAX_TRIES w ↦ (simp (w.if-good.false, le-ltb _ _ w.if-tries-ge-MAX_TRIES.true), c.requires)
+    ]
 
-pub returns-then-tries-ge-MAX_TRIES : goal.returns-then-tries-ge-MAX_TRIES
-unfolding attempt_of
-returns-then-tries-ge-MAX_TRIES c =
-    let free = free_number (collect pairs_in (rows_of c.args.count c.args.entries)) (pairs_of c.args.announced) in
-    (c.passed-then-tries-ge-MAX_TRIES.ensures.0 ∙ simp (c.if-good.false, le-ltb _ _ c.if-tries-ge-MAX_TRIES.true), subst (λ (b : ℕ). NoneFree free b) (sym c.passed-then-tries-ge-MAX_TRIES.ensures.1) c.requires)
+pub returns-in-Some : goal.returns-in-Some
+unfolding pair_in pair_of
+returns-in-Some c =
+    (offers (free_for c.args.entries.now c.args.announced.now) c.args.place c.args.tries (record { pair = pair_in c.args.pair; good = c.args.good }) c.if-good.false c.if-tries-ge-MAX_TRIES.false (sym c.in-Some.ensures), c.requires)
 
-pub free_for-free-requires : goal.free_for-free-requires
-free_for-free-requires c = c.requires
-
-pub returns-in-Number : goal.returns-in-Number
-unfolding pair_of
-returns-in-Number c =
-    let free = free_number (collect pairs_in (rows_of c.args.count c.args.entries)) (pairs_of c.args.announced) in
-    (offers free c.args.place c.args.tries (record { pair = pair_of c.args.block c.args.number; good = c.args.good }) c.if-good.false c.if-tries-ge-MAX_TRIES.false (sym c.free_for-free.ensures ∙ ap free_of c.in-Number.is), c.requires)
-
-pub returns-in-Nothing : goal.returns-in-Nothing
-unfolding pair_of
-returns-in-Nothing c =
-    let free = free_number (collect pairs_in (rows_of c.args.count c.args.entries)) (pairs_of c.args.announced) in
-    let none_free = sym c.free_for-free.ensures ∙ ap free_of c.in-Nothing.is in
-    (c.passed-in-Nothing.ensures.0 ∙ offers_none free c.args.place c.args.tries (record { pair = pair_of c.args.block c.args.number; good = c.args.good }) c.if-good.false c.if-tries-ge-MAX_TRIES.false none_free, λ h. ap free c.passed-in-Nothing.ensures.1 ∙ none_free)
+pub returns-in-None : goal.returns-in-None
+unfolding pair_in pair_of
+returns-in-None c =
+    (offers_none (free_for c.args.entries.now c.args.announced.now) c.args.place c.args.tries (record { pair = pair_in c.args.pair; good = c.args.good }) c.if-good.false c.if-tries-ge-MAX_TRIES.false (sym c.in-None.ensures), sym c.in-None.ensures)

@@ -68,17 +68,14 @@ pub fn pairs(arguments: &mut Arguments, bytes: &mut [u8]) -> Result<usize, Reaso
     ensures place { arguments.new ≡ record arguments.old { at = place_of arguments.old.at (pairs_at arguments.old.line.now arguments.old.at) } }
     ensures stored { bytes.new ≡ sets bytes.old 0 (pairs_stored arguments.old.line.now arguments.old.at) }
 {
-    let line = arguments.line;
-    let mut start = words::word_start(line, arguments.at);
+    let mut rest = *arguments;
     let mut count = 0;
-    while start < line.len() {
-        let end = words::word_end(line, start);
-        taken_as_pair(&line[start..end], count)?;
-        store(&line[start..end], bytes, 2 * count);
+    while let Some(word) = rest.word() {
+        taken_as_pair(word, count)?;
+        store(word, bytes, 2 * count);
         count += 1;
-        start = words::word_start(line, end);
     }
-    arguments.at = line.len();
+    arguments.at = arguments.line.len();
     Ok(count)
 }
 

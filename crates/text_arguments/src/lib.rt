@@ -166,7 +166,7 @@ pub fn put(bytes: &mut [u8], at: usize, byte: u8)
 
 // The bytes of a group from place `from` on, as far as there is room for them; the place behind all of them is handed back.
 fn store(group: &[u8], bytes: &mut [u8], from: usize) -> usize
-    requires { from + length group.now < 18446744073709551616 }
+    requires { from + length group.now < 2 ^ 64 }
     ensures { Wrote bytes.old from (bytes_of group.now) result bytes.new }
 {
     for i in 0..group.len() / 2 {

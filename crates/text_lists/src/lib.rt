@@ -1,7 +1,7 @@
 // Lists of words in a line: pairs, what names a row, and where hexadecimal groups end.
 #![tactic(auto)]
 
-ghost use Rattle.std.specs.Prelude.{◌≡◌, ◌+◌, ◌-◌, ◌≤◌, ◌<◌, length, drop};
+ghost use Rattle.std.specs.Prelude.{◌≡◌, ◌+◌, ◌-◌, ◌^◌, ◌≤◌, ◌<◌, length, drop};
 ghost use Rattle.std.proofs.lemmas.List.Edits.{sets};
 ghost use Rattle.laws.specs.Buffers.{Wrote};
 ghost use Rattle.text_arguments.specs.Reading.{value_of, place_of};
@@ -55,7 +55,7 @@ fn taken_as_pair(word: &[u8], taken: usize) -> Result<(), Reason>
 
 // The two bytes of a pair from place `at` on, as far as there is room for them.
 fn store(word: &[u8], bytes: &mut [u8], at: usize)
-    requires { (length word.now ≡ 5) × (at + 2 < 18446744073709551616) }
+    requires { (length word.now ≡ 5) × (at + 2 < 2 ^ 64) }
     ensures { Wrote bytes.old at (pair_bytes_of word.now) (at + 2) bytes.new }
 {
     text_arguments::put(bytes, at, numbers::byte(word[0], word[1]));

@@ -1,4 +1,5 @@
 -- Laws that several functions' proofs use.
+pub mod Segments
 pub mod Telling
 pub mod Learning
 pub mod Rows

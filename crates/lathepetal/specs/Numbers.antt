@@ -3,8 +3,6 @@ use Rattle.std.specs.Prelude.{ℕ, ◌≡◌, List}
 use Rattle.std.proofs.lemmas.List.Edits.{sets}
 use Rattle.rules.specs.Telegram as rules
 use Rattle.tel_join_state.specs.declared.Reassembly.{Reassembly}
-use Rattle.tel_join_state.specs.declared.JoinAnswer.{JoinAnswer}
-use Rattle.tel_join_state.specs.declared.JoinAnswer.TheVariants as joins
 use Rattle.tel_join_state.specs.Answers.{joining_of, handed_back}
 use Rattle.lathepetal.specs.declared.telegrams.CutOutcome.{CutOutcome}
 use Rattle.lathepetal.specs.declared.telegrams.JoinOutcome.{JoinOutcome}
@@ -16,11 +14,6 @@ pub record Cuts (c : rules.Cut) (before : List ℕ) (r : CutOutcome) (after : Li
   pub buffer : after ≡ sets before 0 (rules.cut_bytes c)
 
 -- 1 where a message is complete
-unfoldable pub complete_of : JoinAnswer → ℕ
-complete_of (joins.Refused n) = 0
-complete_of joins.Open = 0
-complete_of (joins.Complete m n) = 1
-
 unfoldable pub complete : rules.Join → ℕ
 complete (rules.unjoined n) = 0
 complete rules.still_open = 0

@@ -1,10 +1,11 @@
-// Telegrams: counted, cut and joined.
+// Telegrams: counted, cut and joined. C interface: a number stands beside the value, and a state goes in and comes back.
 ghost use Rattle.std.specs.Prelude.{◌≡◌, length};
 ghost use Rattle.rules.specs.Telegram.{idle, count, count_number, count_value, cut, join};
 ghost use Rattle.tel_join_state.specs.Answers.{joining_of, state_of};
-ghost use Rattle.lathepetal.specs.Numbers.{Cuts, Joins, complete_of};
+ghost use Rattle.lathepetal.specs.Numbers.{Cuts, Joins};
 
-use tel_join_state::{JoinAnswer, Reassembly};
+use numbers::number_in;
+use tel_join_state::{Message, Reassembly};
 
 // The number of a refusal or 0, and how many telegrams the message has.
 #[repr(C)]
@@ -33,20 +34,6 @@ pub struct JoinOutcome {
     pub state: Reassembly,
 }
 
-// 1 where the message is complete.
-fn complete(answer: JoinAnswer) -> u8
-    ensures { result ≡ complete_of answer }
-{
-    match answer {
-        JoinAnswer::Refused(_) => 0,
-        JoinAnswer::Open => 0,
-        JoinAnswer::Complete {
-            msg_id: _,
-            length: _,
-        } => 1,
-    }
-}
-
 // How many telegrams a message has, or 10 or 11.
 #[unsafe(no_mangle)]
 pub extern "C" fn lathepetal_count(l: usize, payload: &[u8]) -> CountOutcome
@@ -54,8 +41,8 @@ pub extern "C" fn lathepetal_count(l: usize, payload: &[u8]) -> CountOutcome
 {
     let answer = tel_count::count(l, payload);
     CountOutcome {
-        number: answer.number(),
-        telegrams: answer.telegrams(),
+        number: number_in(answer),
+        telegrams: answer.unwrap_or(0),
     }
 }
 
@@ -72,8 +59,8 @@ pub extern "C" fn lathepetal_cut(
 {
     let answer = tel_cut::cut(l, msg_id, payload, number, buffer);
     CutOutcome {
-        number: answer.number(),
-        length: answer.length(),
+        number: number_in(answer),
+        length: answer.unwrap_or(0),
     }
 }
 
@@ -96,14 +83,18 @@ pub extern "C" fn lathepetal_join(
 ) -> JoinOutcome
     ensures { Joins state (join l (joining_of state) buffer.old telegram.now) result buffer.new }
 {
-    let joined = tel_join::join(state, l, buffer, telegram);
-    let answer = joined.answer;
-    let next = joined.state;
+    let mut next = state;
+    let answer = tel_join::join(&mut next, l, buffer, telegram);
+    let message = answer.unwrap_or(None);
+    let told = message.unwrap_or(Message {
+        msg_id: 0,
+        length: 0,
+    });
     JoinOutcome {
-        number: answer.number(),
-        complete: complete(answer),
-        msg_id: answer.msg_id(),
-        length: answer.length(),
+        number: number_in(answer),
+        complete: u8::from(message.is_some()),
+        msg_id: told.msg_id,
+        length: told.length,
         state: next,
     }
 }

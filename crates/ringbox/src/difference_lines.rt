@@ -8,17 +8,17 @@ use text_numbers::Asked;
 use text_out::Output;
 
 // One difference's line.
-fn line(output: &mut Output, kind: u8, position: u8, address: u16, block: u8, number: u8) {
-    let [kind_number, position, address, block, number] = [
-        usize::from(kind),
-        usize::from(position),
-        usize::from(address),
-        usize::from(block),
-        usize::from(number),
-    ];
+fn line(
+    output: &mut Output,
+    kind: u8,
+    position: usize,
+    address: usize,
+    block: usize,
+    number: usize,
+) {
     output.form(
         b"= %d %d %w %b %b  ",
-        &[kind_number, position, address, block, number],
+        &[usize::from(kind), position, address, block, number],
     );
     match kind {
         POSITION_GONE => output.form(b"position %d is gone", &[position]),
@@ -45,10 +45,10 @@ fn lines(output: &mut Output, bytes: &[u8]) {
         line(
             output,
             change[KIND],
-            change[POSITION],
-            address,
-            change[BLOCK],
-            change[NUMBER],
+            usize::from(change[POSITION]),
+            usize::from(address),
+            usize::from(change[BLOCK]),
+            usize::from(change[NUMBER]),
         );
     }
 }

@@ -23,13 +23,13 @@ pub enum Which {
 }
 
 // Rows as they were gathered, and how many they are.
-#[derive(Clone, Copy)]
+#[derive(Drop)]
 pub struct RowList {
     pub rows: Rows,
     pub count: usize,
 }
 
-#[derive(Clone, Copy)]
+#[derive(Drop)]
 pub struct Lists {
     pub first: RowList,
     pub second: RowList,

@@ -8,7 +8,6 @@ mod lists;
 mod order_lines;
 mod show;
 
-ghost use Rattle.std.specs.Prelude.{◌≡◌, IfErr};
 ghost use Rattle.registry.specs.Outcome.{HandedOut};
 
 use command::{Command, MAX_DIFFERENCE_ROOM, MAX_RECORD, MAX_ROOM};

@@ -1,6 +1,7 @@
 // Telegrams and messages in hexadecimal.
-ghost use Rattle.std.specs.Prelude.{◌≤◌};
+ghost use Rattle.std.specs.Prelude.{◌*◌, ◌+◌, ◌≤◌};
 
+use crate::command::MAX_TELEGRAM;
 use text_out::Output;
 
 // How many bytes of a message stand on a line.
@@ -13,8 +14,8 @@ const BEHIND_HEAD: usize = 6;
 
 // How many characters a telegram of n bytes has.
 pub(crate) fn width(n: usize) -> usize
-    requires { n ≤ 8192 }
-    ensures { result ≤ 16386 }
+    requires { n ≤ MAX_TELEGRAM }
+    ensures { result ≤ 2 * MAX_TELEGRAM + 2 }
 {
     2 * n + usize::from(BEHIND_MSG_ID < n) + usize::from(BEHIND_HEAD < n)
 }

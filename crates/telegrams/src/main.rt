@@ -47,7 +47,7 @@ fn pattern(i: usize, seed: usize) -> u8 {
 
 // How many characters a join command has in its normal form, of a telegram of n bytes.
 fn join_width(l: usize, room: usize, n: usize) -> usize
-    requires { n ≤ 8192 }
+    requires { n ≤ MAX_TELEGRAM }
 {
     let named = JOIN_MARK + Output::decimal_width(l) + 1 + Output::decimal_width(room);
     if n == 0 {
@@ -78,7 +78,7 @@ fn message(output: &mut Output, msg_id: u32, bytes: &[u8]) {
 impl Desk {
     // The payload from a line's bytes.
     fn set_payload(&mut self, output: &mut Output, bytes: &[u8])
-        requires { length bytes.now ≤ 8192 }
+        requires { length bytes.now ≤ MAX_TELEGRAM }
     {
         self.payload.clear();
         self.payload.try_extend_from_slice(bytes).unwrap();
@@ -178,7 +178,7 @@ impl Desk {
 
     // A command, with the bytes that it names.
     fn done(&mut self, output: &mut Output, command: Command, bytes: &[u8]) -> Result<(), Refusal>
-        requires { length bytes.now ≤ 8192 }
+        requires { length bytes.now ≤ MAX_TELEGRAM }
     {
         match command {
             Command::Payload(_) => self.set_payload(output, bytes),

@@ -40,8 +40,8 @@ impl TryFrom<u32> for TelId {
     ghost try_from_gives = { Reads };
 
     // A number above 3 is passed over: 15.
-    fn try_from(number: u32) -> Result<TelId, Refusal> {
-        match number {
+    fn try_from(tel_id: u32) -> Result<TelId, Refusal> {
+        match tel_id {
             0 => Ok(TelId::Single),
             1 => Ok(TelId::First),
             2 => Ok(TelId::Next),

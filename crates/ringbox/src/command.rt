@@ -74,15 +74,12 @@ fn row(arguments: Arguments, which: Which, bytes: &mut [u8]) -> Result<Command, 
 }
 
 // What a list is to be: the picture's rows, none, or with one row more.
-fn list(line: &[u8], at: usize, which: Which, bytes: &mut [u8]) -> Result<Command, Reason> {
-    let start = words::word_start(line, at);
-    if line.len() <= start {
-        return Ok(Command::TakeRows(which));
-    }
-    let end = words::word_end(line, start);
-    match &line[start..end] {
-        b"none" => bare(Arguments::from(line, end), Command::NoRows(which)),
-        _ => row(Arguments::from(line, at), which, bytes),
+fn list(arguments: Arguments, which: Which, bytes: &mut [u8]) -> Result<Command, Reason> {
+    let mut behind = arguments;
+    match behind.word() {
+        None => Ok(Command::TakeRows(which)),
+        Some(b"none") => bare(behind, Command::NoRows(which)),
+        Some(_) => row(arguments, which, bytes),
     }
 }
 
@@ -104,24 +101,20 @@ fn offered(mut arguments: Arguments, record: &mut [u8]) -> Result<Command, Reaso
 // The command of a line, and the bytes of a record or of pairs in `bytes`; why there is none.
 pub(crate) fn parse(line: &[u8], bytes: &mut [u8]) -> Result<Command, Reason> {
     let start = words::word_start(line, 0);
-    if line.len() <= start {
-        return Err(Reason::UnknownWord);
-    }
-    if line[start] == b'>' {
+    if line.get(start) == Some(&b'>') {
         return offered(Arguments::from(line, start + 1), bytes);
     }
-    let end = words::word_end(line, start + 1);
-    let arguments = Arguments::from(line, end);
-    match &line[start..end] {
-        b"state" => bare(arguments, Command::State),
-        b"listing" => bare(arguments, Command::Listing),
-        b"rows" => bare(arguments, Command::Rows),
-        b"lookup" => look_up(arguments),
-        b"fresh" => fresh(arguments),
-        b"room" => room(arguments),
-        b"first" => list(line, end, Which::First, bytes),
-        b"second" => list(line, end, Which::Second, bytes),
-        b"compare" => compare(arguments),
+    let mut arguments = Arguments::from(line, 0);
+    match arguments.word() {
+        Some(b"state") => bare(arguments, Command::State),
+        Some(b"listing") => bare(arguments, Command::Listing),
+        Some(b"rows") => bare(arguments, Command::Rows),
+        Some(b"lookup") => look_up(arguments),
+        Some(b"fresh") => fresh(arguments),
+        Some(b"room") => room(arguments),
+        Some(b"first") => list(arguments, Which::First, bytes),
+        Some(b"second") => list(arguments, Which::Second, bytes),
+        Some(b"compare") => compare(arguments),
         _ => Err(Reason::UnknownWord),
     }
 }

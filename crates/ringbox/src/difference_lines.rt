@@ -5,102 +5,60 @@ use diff_position::{ADDRESS, BLOCK, KIND, NUMBER, POSITION};
 use numbers::DONE;
 use sizes::LINE_SIZE;
 use text_numbers::Asked;
-use text_out::{Output, SPACE};
-use text_words::numbers::smaller;
-
-// A position and an address in words, by the kind of the line.
-fn place_in_words(
-    output: Output,
-    text: &mut [u8; SPACE],
-    kind: u8,
-    position: u8,
-    address: u16,
-) -> Output {
-    let values = [position as usize, address as usize];
-    match kind {
-        POSITION_GONE => output.form(text, b"position %d is gone", &values),
-        POSITION_NEW => output.form(text, b"position %d is new, with address %w", &values),
-        ADDRESS_CHANGED => output.form(text, b"position %d: the address is now %w", &values),
-        _ => output,
-    }
-}
-
-// A pair of a position in words, by the kind of the line.
-fn pair_in_words(
-    output: Output,
-    text: &mut [u8; SPACE],
-    kind: u8,
-    position: u8,
-    block: u8,
-    number: u8,
-) -> Output {
-    let values = [position as usize, block as usize, number as usize];
-    match kind {
-        PAIR_GONE => output.form(text, b"position %d: pair %b.%b is gone", &values),
-        PAIR_NEW => output.form(text, b"position %d: pair %b.%b is new", &values),
-        _ => output,
-    }
-}
+use text_out::Output;
 
 // One difference's line.
 fn line(
-    output: Output,
-    text: &mut [u8; SPACE],
+    output: &mut Output,
     kind: u8,
-    position: u8,
-    address: u16,
-    block: u8,
-    number: u8,
-) -> Output {
-    let values = [
-        kind as usize,
-        position as usize,
-        address as usize,
-        block as usize,
-        number as usize,
-    ];
-    let fields = output.form(text, b"= %d %d %w %b %b  ", &values);
-    let placed = place_in_words(fields, text, kind, position, address);
-    let told = pair_in_words(placed, text, kind, position, block, number);
-    told.line_end(text)
+    position: usize,
+    address: usize,
+    block: usize,
+    number: usize,
+) {
+    output.form(
+        b"= %d %d %w %b %b  ",
+        &[usize::from(kind), position, address, block, number],
+    );
+    match kind {
+        POSITION_GONE => output.form(b"position %d is gone", &[position]),
+        POSITION_NEW => output.form(b"position %d is new, with address %w", &[position, address]),
+        ADDRESS_CHANGED => output.form(b"position %d: the address is now %w", &[position, address]),
+        PAIR_GONE => output.form(
+            b"position %d: pair %b.%b is gone",
+            &[position, block, number],
+        ),
+        PAIR_NEW => output.form(
+            b"position %d: pair %b.%b is new",
+            &[position, block, number],
+        ),
+        _ => {}
+    }
+    output.line_end();
 }
 
 // How many differences there are, and a line for each.
-fn lines(output: Output, text: &mut [u8; SPACE], bytes: &[u8]) -> Output {
-    let n = bytes.len() / LINE_SIZE;
-    let values = [n];
-    let mut next = output.form(text, b"= differences %d\n", &values);
-    let mut i = 0;
-    while i < n {
-        let at = LINE_SIZE * i;
-        let address = wire_octets::word(bytes[at + ADDRESS], bytes[at + ADDRESS + 1]);
-        next = line(
-            next,
-            text,
-            bytes[at + KIND],
-            bytes[at + POSITION],
-            address as u16,
-            bytes[at + BLOCK],
-            bytes[at + NUMBER],
+fn lines(output: &mut Output, bytes: &[u8]) {
+    output.form(b"= differences %d\n", &[bytes.len() / LINE_SIZE]);
+    for change in bytes.chunks_exact(LINE_SIZE) {
+        let address = u16::from_be_bytes([change[ADDRESS], change[ADDRESS + 1]]);
+        line(
+            output,
+            change[KIND],
+            usize::from(change[POSITION]),
+            usize::from(address),
+            usize::from(change[BLOCK]),
+            usize::from(change[NUMBER]),
         );
-        i += 1;
     }
-    next
 }
 
 // The differences from the first list to the second, written into the lent room, or the refusal.
-pub(crate) fn compared(
-    output: Output,
-    text: &mut [u8; SPACE],
-    lists: Lists,
-    lent: &mut [u8],
-) -> Output {
-    let first = lists.first;
-    let second = lists.second;
-    let outcome = diff_lines::differences(lent, first.rows, second.rows);
+pub(crate) fn compare(output: &mut Output, lists: &Lists, lent: &mut [u8]) {
+    output.form(b"compare %d\n", &[lent.len()]);
+    let outcome = diff_lines::differences(lent, lists.first.rows, lists.second.rows);
     if outcome.number != DONE {
-        return text_answers::refusal(output, text, Asked::Compare, outcome.number);
+        return text_answers::refusal(output, Asked::Compare, outcome.number);
     }
-    let end = smaller(outcome.length, lent.len());
-    lines(output, text, &lent[0..end])
+    lines(output, &lent[..outcome.length.min(lent.len())]);
 }

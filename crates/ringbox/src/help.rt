@@ -1,22 +1,6 @@
 // What --help says.
-use std::env::FillError;
-use std::io::Stdout;
-use std::rt::Env;
-
-// Whether an argument stands behind the program's name, of any length.
-pub(crate) fn is_asked_for(rt: HostRuntime) -> bool {
-    let mut first = [0u8; 1];
-    match rt.arg(1, &mut first) {
-        Ok(_) => true,
-        Err(FillError::TooLong) => true,
-        Err(FillError::NotPresent) => false,
-    }
-}
-
-// The commands. A failed write changes nothing.
-pub(crate) fn write(stdout: Stdout) {
-    let _ = stdout.write_all(
-        b"ringbox: plays NetworkMaster to a MOST ring from a bench script on standard input.
+pub const TEXT: &[u8] =
+    b"ringbox: plays NetworkMaster to a MOST ring from a bench script on standard input.
 
   > HEX             offers a record: = taken and its orders, or a refusal
   fresh L           a fresh picture for payload size L, 12 to 45 (12 at the start)
@@ -35,6 +19,4 @@ A record: 4D45, kind, pass (4 bytes), x. Kinds: 01 START and 02 NCE (x = N), 03 
 04 ANSWER (x = position, address (2), count, pairs), 05 NONE (x = position), 06 DELAY.
 In: > 4D45 01 00000000 03     Out: < 4D4F 01 00000001 01  ASK position 1
 What it writes is a script too: fed back in, it gives the same text again.
-",
-    );
-}
+";

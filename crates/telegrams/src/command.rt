@@ -1,7 +1,6 @@
 // The commands of a telegram script.
 use sizes::MAX_PAYLOAD;
 use text_arguments::{Arguments, Reason};
-use text_words::words;
 
 // The sizes of the buffers: a payload, which may be longer than the longest message, and the bytes of a telegram that a line can hold.
 pub const BENCH_PAYLOAD: usize = 70000;
@@ -94,20 +93,15 @@ fn join(mut arguments: Arguments, bytes: &mut [u8]) -> Result<Command, Reason> {
 
 // The command of a line, and the bytes that it names in `bytes`; why there is none.
 pub(crate) fn parse(line: &[u8], bytes: &mut [u8]) -> Result<Command, Reason> {
-    let start = words::word_start(line, 0);
-    if line.len() <= start {
-        return Err(Reason::UnknownWord);
-    }
-    let end = words::word_end(line, start + 1);
-    let arguments = Arguments::from(line, end);
-    match &line[start..end] {
-        b"join" => join(arguments, bytes),
-        b"cut" => cut(arguments),
-        b"cutall" => cut_all(arguments),
-        b"fill" => fill(arguments),
-        b"payload" => payload(arguments, bytes),
-        b"count" => count(arguments),
-        b"rejoin" => rejoin(arguments),
+    let mut arguments = Arguments::from(line, 0);
+    match arguments.word() {
+        Some(b"join") => join(arguments, bytes),
+        Some(b"cut") => cut(arguments),
+        Some(b"cutall") => cut_all(arguments),
+        Some(b"fill") => fill(arguments),
+        Some(b"payload") => payload(arguments, bytes),
+        Some(b"count") => count(arguments),
+        Some(b"rejoin") => rejoin(arguments),
         _ => Err(Reason::UnknownWord),
     }
 }

@@ -1,17 +1,5 @@
 // What --help says.
-use std::env::FillError;
 use std::io::Stdout;
-use std::rt::Env;
-
-// Whether an argument stands behind the program's name, of any length.
-pub(crate) fn is_asked_for(rt: HostRuntime) -> bool {
-    let mut first = [0u8; 1];
-    match rt.arg(1, &mut first) {
-        Ok(_) => true,
-        Err(FillError::TooLong) => true,
-        Err(FillError::NotPresent) => false,
-    }
-}
 
 // The commands. A failed write changes nothing.
 pub(crate) fn write(stdout: Stdout) {

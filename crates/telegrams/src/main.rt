@@ -5,151 +5,31 @@ mod command;
 mod fields;
 mod help;
 
-use command::{BENCH_PAYLOAD, Command, MAX_TELEGRAM};
-use numbers::DONE;
-use sizes::MAX_PAYLOAD;
-use tel_join_state::{JoinAnswer, Reassembly};
-use text_answers::LineKind;
-use text_arguments::TOO_LONG;
-use text_in::{CHUNK, Input, MAX_LINE};
-use text_numbers::Asked;
-use text_out::{Output, SPACE};
-use text_words::numbers::smaller;
+ghost use Rattle.std.specs.Prelude.{◌≤◌, length};
 
-// How many bytes the payload has, the join state, and what is written.
-#[derive(Clone, Copy)]
+use arrayvec::ArrayVec;
+use command::{BENCH_PAYLOAD, Command, MAX_TELEGRAM};
+use numbers::Refusal;
+use sizes::MAX_PAYLOAD;
+use std::env::Env;
+use tel_join_state::Reassembly;
+use text_answers::refusal;
+use text_arguments::Reason;
+use text_bench::Bench;
+use text_in::{Input, MAX_LINE};
+use text_numbers::Asked;
+use text_out::Output;
+
+// What stands on the bench: the payload, the join state, and what is joined.
+#[derive(Drop)]
 struct Desk {
-    payload: usize,
+    payload: ArrayVec<u8, BENCH_PAYLOAD>,
     joining: Reassembly,
-    output: Output,
+    buffer: [u8; MAX_PAYLOAD],
 }
 
 // How many characters `join` and the blank behind it have.
 const JOIN_MARK: usize = 5;
-
-// The same desk with more written.
-fn with_output(desk: Desk, output: Output) -> Desk {
-    let joining = desk.joining;
-    Desk {
-        payload: desk.payload,
-        joining,
-        output,
-    }
-}
-
-// A line that is no command.
-fn not_understood(desk: Desk, text: &mut [u8; SPACE], line: &[u8], reason: u8) -> Desk {
-    let output = desk.output;
-    with_output(
-        desk,
-        text_answers::not_understood(output, text, line, reason),
-    )
-}
-
-// The first n of these bytes.
-fn copy(payload: &mut [u8], bytes: &[u8], n: usize) {
-    let mut i = 0;
-    while i < n {
-        if payload.len() <= i {
-            return;
-        }
-        if bytes.len() <= i {
-            return;
-        }
-        payload[i] = bytes[i];
-        i += 1;
-    }
-}
-
-// The payload from a line's bytes.
-fn set_payload(
-    desk: Desk,
-    text: &mut [u8; SPACE],
-    bytes: &[u8],
-    n: usize,
-    payload: &mut [u8],
-) -> Desk {
-    let length = smaller(n, bytes.len());
-    let size = smaller(length, payload.len());
-    copy(payload, bytes, size);
-    let joining = desk.joining;
-    let output = desk.output;
-    let mut named = output.bytes(text, b"payload");
-    if 0 < length {
-        let blank = named.byte(text, b' ');
-        named = blank.hex_bytes(text, &bytes[0..length]);
-    }
-    Desk {
-        payload: size,
-        joining,
-        output: named.line_end(text),
-    }
-}
-
-// Bytes of a pattern into the payload.
-fn pattern(payload: &mut [u8], n: usize, seed: usize) {
-    let start = seed % 256;
-    let mut i = 0;
-    while i < n {
-        if payload.len() <= i {
-            return;
-        }
-        payload[i] = ((i % 256 * 31 + i / 256 % 256 * 7 + start) % 256) as u8;
-        i += 1;
-    }
-}
-
-fn fill(desk: Desk, text: &mut [u8; SPACE], payload: &mut [u8], n: usize, seed: usize) -> Desk {
-    let size = smaller(n, payload.len());
-    pattern(payload, size, seed);
-    let joining = desk.joining;
-    let output = desk.output;
-    let values = [n, seed];
-    let told = output.form(text, b"fill %d %d\n", &values);
-    Desk {
-        payload: size,
-        joining,
-        output: told,
-    }
-}
-
-// The count of a payload's telegrams, or the refusal.
-fn counted(output: Output, text: &mut [u8; SPACE], payload: &[u8], l: usize) -> Output {
-    let answer = tel_count::count(l, payload);
-    let number = answer.number();
-    if number != DONE {
-        return text_answers::refusal(output, text, Asked::Telegram, number);
-    }
-    let values = [answer.telegrams()];
-    output.form(text, b"= count %d\n", &values)
-}
-
-fn count(output: Output, text: &mut [u8; SPACE], payload: &[u8], l: usize) -> Output {
-    let values = [l];
-    let asked = output.form(text, b"count %d\n", &values);
-    counted(asked, text, payload, l)
-}
-
-// One telegram into `room`, or the refusal.
-fn telegram(
-    output: Output,
-    text: &mut [u8; SPACE],
-    payload: &[u8],
-    l: usize,
-    msg_id: u32,
-    number: usize,
-    room: &mut [u8],
-) -> Output {
-    let answer = tel_cut::cut(l, msg_id, payload, number, room);
-    let refused = answer.number();
-    if refused != DONE {
-        return text_answers::refusal(output, text, Asked::Telegram, refused);
-    }
-    let length = smaller(answer.length(), room.len());
-    let name = output.bytes(text, b"= telegram ");
-    let told = fields::telegram(name, text, &room[0..length]);
-    told.line_end(text)
-}
 
 // The high half of a MsgID, and the low half.
 fn high(msg_id: u32) -> usize {
@@ -160,60 +40,15 @@ fn low(msg_id: u32) -> usize {
     (msg_id % 65536) as usize
 }
 
-fn cut(
-    output: Output,
-    text: &mut [u8; SPACE],
-    payload: &[u8],
-    l: usize,
-    msg_id: u32,
-    number: usize,
-    room: &mut [u8],
-    n: usize,
-) -> Output {
-    let lent = smaller(n, room.len());
-    let values = [l, high(msg_id), low(msg_id), number, lent];
-    let asked = output.form(text, b"cut %d %w%w %d %d\n", &values);
-    telegram(asked, text, payload, l, msg_id, number, &mut room[0..lent])
-}
-
-// This many telegrams of the payload.
-fn each(
-    output: Output,
-    text: &mut [u8; SPACE],
-    payload: &[u8],
-    l: usize,
-    msg_id: u32,
-    telegrams: usize,
-    room: &mut [u8],
-) -> Output {
-    let mut next = output;
-    let mut made = 0;
-    while made < telegrams {
-        made += 1;
-        next = telegram(next, text, payload, l, msg_id, made, room);
-    }
-    next
-}
-
-// All telegrams of the payload, or the refusal.
-fn cut_all(
-    output: Output,
-    text: &mut [u8; SPACE],
-    payload: &[u8],
-    l: usize,
-    msg_id: u32,
-    room: &mut [u8],
-) -> Output {
-    let values = [l, high(msg_id), low(msg_id)];
-    let asked = output.form(text, b"cutall %d %w%w\n", &values);
-    let next = counted(asked, text, payload, l);
-    let answer = tel_count::count(l, payload);
-    let telegrams = answer.telegrams();
-    each(next, text, payload, l, msg_id, telegrams, room)
+// Byte number i of a pattern.
+fn pattern(i: usize, seed: usize) -> u8 {
+    ((i % 256 * 31 + i / 256 % 256 * 7 + seed % 256) % 256) as u8
 }
 
 // How many characters a join command has in its normal form, of a telegram of n bytes.
-fn join_width(l: usize, room: usize, n: usize) -> usize {
+fn join_width(l: usize, room: usize, n: usize) -> usize
+    requires { n ≤ MAX_TELEGRAM }
+{
     let named = JOIN_MARK + Output::decimal_width(l) + 1 + Output::decimal_width(room);
     if n == 0 {
         return named;
@@ -222,252 +57,187 @@ fn join_width(l: usize, room: usize, n: usize) -> usize {
 }
 
 // The join command in its normal form.
-fn join_echo(
-    output: Output,
-    text: &mut [u8; SPACE],
-    l: usize,
-    room: usize,
-    bytes: &[u8],
-) -> Output {
-    let values = [l, room];
-    let named = output.form(text, b"join %d %d", &values);
-    if bytes.len() == 0 {
-        return named.line_end(text);
+fn join_echo(output: &mut Output, l: usize, room: usize, telegram: &[u8]) {
+    output.form(b"join %d %d", &[l, room]);
+    if !telegram.is_empty() {
+        output.byte(b' ');
+        fields::telegram(output, telegram);
     }
-    let gap = named.byte(text, b' ');
-    let told = fields::telegram(gap, text, bytes);
-    told.line_end(text)
+    output.line_end();
 }
 
 // A message that is complete.
-fn message(output: Output, text: &mut [u8; SPACE], msg_id: u32, bytes: &[u8]) -> Output {
-    let values = [high(msg_id), low(msg_id), bytes.len()];
-    let headed = output.form(text, b"= message %w%w %d\n", &values);
-    fields::message(headed, text, bytes)
+fn message(output: &mut Output, msg_id: u32, bytes: &[u8]) {
+    output.form(
+        b"= message %w%w %d\n",
+        &[high(msg_id), low(msg_id), bytes.len()],
+    );
+    fields::message(output, bytes);
 }
 
-// Offers a telegram with this join buffer.
-fn join(desk: Desk, text: &mut [u8; SPACE], buffer: &mut [u8], l: usize, bytes: &[u8]) -> Desk {
-    let output = desk.output;
-    let told = join_echo(output, text, l, buffer.len(), bytes);
-    let joining = desk.joining;
-    let joined = tel_join::join(joining, l, buffer, bytes);
-    let answer = joined.answer;
-    let next = joined.state;
-    match answer {
-        JoinAnswer::Refused(number) => {
-            let refused = text_answers::refusal(told, text, Asked::Telegram, number);
-            Desk {
-                payload: desk.payload,
-                joining: next,
-                output: refused,
-            }
+impl Desk {
+    // The payload from a line's bytes.
+    fn set_payload(&mut self, output: &mut Output, bytes: &[u8])
+        requires { length bytes.now ≤ MAX_TELEGRAM }
+    {
+        self.payload.clear();
+        self.payload.try_extend_from_slice(bytes).unwrap();
+        output.bytes(b"payload");
+        if !bytes.is_empty() {
+            output.byte(b' ');
+            output.hex_bytes(bytes);
         }
-        JoinAnswer::Open => {
-            let opened = told.line(text, b"= open");
-            Desk {
-                payload: desk.payload,
-                joining: next,
-                output: opened,
-            }
+        output.line_end();
+    }
+
+    // The payload from a pattern.
+    fn fill(&mut self, output: &mut Output, n: usize, seed: usize) {
+        self.payload.clear();
+        for i in 0..n.min(BENCH_PAYLOAD) {
+            self.payload.push(pattern(i, seed));
         }
-        JoinAnswer::Complete { msg_id, length } => {
-            let size = smaller(length, buffer.len());
-            let whole = message(told, text, msg_id, &buffer[0..size]);
-            Desk {
-                payload: desk.payload,
-                joining: next,
-                output: whole,
-            }
-        }
+        output.form(b"fill %d %d\n", &[n, seed]);
     }
-}
 
-// What is counted or cut of a payload.
-fn segmented(
-    output: Output,
-    text: &mut [u8; SPACE],
-    payload: &[u8],
-    command: Command,
-    room: &mut [u8],
-) -> Output {
-    match command {
-        Command::Count(l) => count(output, text, payload, l),
-        Command::Cut {
-            l,
-            msg_id,
-            number,
-            room: n,
-        } => cut(output, text, payload, l, msg_id, number, room, n),
-        Command::CutAll { l, msg_id } => cut_all(output, text, payload, l, msg_id, room),
-        _ => output,
+    // The count of the payload's telegrams.
+    fn counted(&self, output: &mut Output, l: usize) -> Result<usize, Refusal> {
+        let telegrams = tel_count::count(l, self.payload.as_slice())?;
+        output.form(b"= count %d\n", &[telegrams]);
+        Ok(telegrams)
     }
-}
 
-// The same of the payload at hand.
-fn segment(
-    desk: Desk,
-    text: &mut [u8; SPACE],
-    payload: &[u8],
-    command: Command,
-    room: &mut [u8],
-) -> Desk {
-    let output = desk.output;
-    let size = smaller(desk.payload, payload.len());
-    with_output(
-        desk,
-        segmented(output, text, &payload[0..size], command, room),
-    )
-}
-
-// A fresh join state.
-fn rejoin(desk: Desk, text: &mut [u8; SPACE]) -> Desk {
-    let output = desk.output;
-    let joining = Reassembly::fresh();
-    Desk {
-        payload: desk.payload,
-        joining,
-        output: output.line(text, b"rejoin"),
+    fn count(&self, output: &mut Output, l: usize) -> Result<(), Refusal> {
+        output.form(b"count %d\n", &[l]);
+        self.counted(output, l)?;
+        Ok(())
     }
-}
 
-// A telegram offered with so much of the join buffer, where its normal form is no longer than a line.
-fn offer(
-    desk: Desk,
-    text: &mut [u8; SPACE],
-    line: &[u8],
-    l: usize,
-    buffer: &mut [u8],
-    room: usize,
-    bytes: &[u8],
-    n: usize,
-) -> Desk {
-    let length = smaller(n, bytes.len());
-    if MAX_LINE < join_width(l, room, length) {
-        return not_understood(desk, text, line, TOO_LONG);
+    // One telegram of the payload, cut into `room`.
+    fn telegram(
+        &self,
+        output: &mut Output,
+        l: usize,
+        msg_id: u32,
+        number: usize,
+        room: &mut [u8],
+    ) -> Result<(), Refusal> {
+        let length = tel_cut::cut(l, msg_id, self.payload.as_slice(), number, room)?;
+        output.bytes(b"= telegram ");
+        fields::telegram(output, &room[..length.min(room.len())]);
+        output.line_end();
+        Ok(())
     }
-    let lent = smaller(room, buffer.len());
-    join(desk, text, &mut buffer[0..lent], l, &bytes[0..length])
-}
 
-// A command line.
-fn obey(
-    desk: Desk,
-    text: &mut [u8; SPACE],
-    line: &[u8],
-    bytes: &mut [u8],
-    payload: &mut [u8],
-    room: &mut [u8],
-    buffer: &mut [u8],
-) -> Desk {
-    let command = command::parse(line, bytes);
-    match command {
-        Command::NotUnderstood(reason) => not_understood(desk, text, line, reason),
-        Command::Payload(n) => set_payload(desk, text, bytes, n, payload),
-        Command::Fill { n, seed } => fill(desk, text, payload, n, seed),
-        Command::Rejoin => rejoin(desk, text),
-        Command::Join { l, room: lent, n } => offer(desk, text, line, l, buffer, lent, bytes, n),
-        _ => segment(desk, text, payload, command, room),
-    }
-}
-
-// A line of any kind.
-fn answer(
-    desk: Desk,
-    text: &mut [u8; SPACE],
-    line: &[u8],
-    bytes: &mut [u8],
-    payload: &mut [u8],
-    room: &mut [u8],
-    buffer: &mut [u8],
-) -> Desk {
-    let kind = text_answers::kind_of(line, b'<');
-    let output = desk.output;
-    match kind {
-        LineKind::Remark => with_output(desk, output.line(text, line)),
-        LineKind::EarlierAnswer => desk,
-        LineKind::Offer => obey(desk, text, line, bytes, payload, room, buffer),
-    }
-}
-
-// A line as it was read, of up to `length` bytes, or a too long one.
-fn if_fits(
-    desk: Desk,
-    text: &mut [u8; SPACE],
-    line: &[u8],
-    length: usize,
-    bytes: &mut [u8],
-    payload: &mut [u8],
-    room: &mut [u8],
-    buffer: &mut [u8],
-) -> Desk {
-    if line.len() < length {
-        return not_understood(desk, text, line, TOO_LONG);
-    }
-    answer(desk, text, &line[0..length], bytes, payload, room, buffer)
-}
-
-// A line as it was read, and nothing left waiting to be written.
-fn turn(
-    desk: Desk,
-    text: &mut [u8; SPACE],
-    line: &[u8; MAX_LINE],
-    length: usize,
-    bytes: &mut [u8; MAX_TELEGRAM],
-    payload: &mut [u8; BENCH_PAYLOAD],
-    room: &mut [u8; BENCH_PAYLOAD],
-    buffer: &mut [u8; MAX_PAYLOAD],
-) -> Desk {
-    let next = if_fits(desk, text, line, length, bytes, payload, room, buffer);
-    let written = next.output;
-    with_output(next, written.drained(text))
-}
-
-// The script, line by line, up to its end or to a failed write.
-fn play(rt: HostRuntime) {
-    let mut chunk = [0u8; CHUNK];
-    let mut line = [0u8; MAX_LINE];
-    let mut text = [0u8; SPACE];
-    let mut bytes = [0u8; MAX_TELEGRAM];
-    let mut payload = [0u8; BENCH_PAYLOAD];
-    let mut room = [0u8; BENCH_PAYLOAD];
-    let mut buffer = [0u8; MAX_PAYLOAD];
-    let mut desk = Desk {
-        payload: 0,
-        joining: Reassembly::fresh(),
-        output: Output::new(rt.stdout()),
-    };
-    let mut input = Input::new();
-    // A loop has to end; no script is as long as this.
-    let mut turns = u64::MAX;
-    while 0 < turns {
-        turns -= 1;
-        let read = input.line(rt.stdin(), &mut chunk, &mut line);
-        if !read.present {
-            return;
-        }
-        input = read.input;
-        desk = turn(
-            desk,
-            &mut text,
-            &line,
-            read.length,
-            &mut bytes,
-            &mut payload,
-            &mut room,
-            &mut buffer,
+    fn cut(
+        &self,
+        output: &mut Output,
+        l: usize,
+        msg_id: u32,
+        number: usize,
+        room: usize,
+    ) -> Result<(), Refusal> {
+        let lent = room.min(BENCH_PAYLOAD);
+        output.form(
+            b"cut %d %w%w %d %d\n",
+            &[l, high(msg_id), low(msg_id), number, lent],
         );
-        let output = desk.output;
-        if output.closed {
-            return;
+        self.telegram(output, l, msg_id, number, &mut [0; BENCH_PAYLOAD][..lent])
+    }
+
+    // All telegrams of the payload.
+    fn cut_all(&self, output: &mut Output, l: usize, msg_id: u32) -> Result<(), Refusal> {
+        output.form(b"cutall %d %w%w\n", &[l, high(msg_id), low(msg_id)]);
+        let telegrams = self.counted(output, l)?;
+        let mut room = [0; BENCH_PAYLOAD];
+        for number in 1..=telegrams {
+            self.telegram(output, l, msg_id, number, &mut room)?;
         }
+        Ok(())
+    }
+
+    // Offers a telegram with so much of the join buffer.
+    fn join(
+        &mut self,
+        output: &mut Output,
+        l: usize,
+        room: usize,
+        telegram: &[u8],
+    ) -> Result<(), Refusal> {
+        let lent = room.min(MAX_PAYLOAD);
+        join_echo(output, l, lent, telegram);
+        // The check lends one field of a struct at a time, so the state is lent as a copy.
+        let mut joining = self.joining;
+        let taken = tel_join::join(&mut joining, l, &mut self.buffer[..lent], telegram);
+        self.joining = joining;
+        match taken? {
+            None => output.line(b"= open"),
+            Some(whole) => message(output, whole.msg_id, &self.buffer[..whole.length.min(lent)]),
+        }
+        Ok(())
+    }
+
+    // A command, with the bytes that it names.
+    fn done(&mut self, output: &mut Output, command: Command, bytes: &[u8]) -> Result<(), Refusal>
+        requires { length bytes.now ≤ MAX_TELEGRAM }
+    {
+        match command {
+            Command::Payload(_) => self.set_payload(output, bytes),
+            Command::Fill { n, seed } => self.fill(output, n, seed),
+            Command::Count(l) => self.count(output, l)?,
+            Command::Cut {
+                l,
+                msg_id,
+                number,
+                room,
+            } => self.cut(output, l, msg_id, number, room)?,
+            Command::CutAll { l, msg_id } => self.cut_all(output, l, msg_id)?,
+            Command::Rejoin => {
+                self.joining = Reassembly::fresh();
+                output.line(b"rejoin");
+            }
+            Command::Join { l, room, n: _ } => self.join(output, l, room, bytes)?,
+        }
+        Ok(())
+    }
+}
+
+impl Bench for Desk {
+    fn start() -> Self {
+        Desk {
+            payload: ArrayVec::new(),
+            joining: Reassembly::fresh(),
+            buffer: [0; MAX_PAYLOAD],
+        }
+    }
+
+    // A telegram is offered where its normal form is no longer than a line.
+    fn obey(&mut self, output: &mut Output, line: &[u8]) -> Result<(), Reason> {
+        let mut bytes = [0u8; MAX_TELEGRAM];
+        let command = command::parse(line, &mut bytes)?;
+        let named = match command {
+            Command::Payload(n) => n.min(MAX_TELEGRAM),
+            Command::Join { l, room, n } => {
+                let named = n.min(MAX_TELEGRAM);
+                if MAX_LINE < join_width(l, room, named) {
+                    return Err(Reason::TooLong);
+                }
+                named
+            }
+            _ => 0,
+        };
+        if let Err(why) = self.done(output, command, &bytes[..named]) {
+            refusal(output, Asked::Telegram, why.number());
+        }
+        Ok(())
     }
 }
 
 fn main(rt: HostRuntime) {
-    if help::is_asked_for(rt) {
+    if text_bench::is_there(rt.arg(1, &mut [0u8; 1])) {
         help::write(rt.stdout());
         return;
     }
-    play(rt);
+    let mut input = Input::new(rt.stdin());
+    let mut output = Output::new(rt.stdout());
+    text_bench::play::<Desk>(&mut input, &mut output, b'<');
 }

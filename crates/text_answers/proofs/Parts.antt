@@ -1,27 +1,24 @@
 -- A line's kind by its first byte, and the parts of what is said.
 use Prim.Native.Nat.{ℕ, ◌≤◌, ◌<◌}
 use mathlib.Core.Path.{◌≡◌, refl, sym, ◌∙◌, ap}
-use mathlib.Core.Bool.{Bool, true, false, not, cond, ◌||◌}
+use mathlib.Core.Bool.{Bool, true, false, cond, ◌&&◌, ◌||◌}
 use mathlib.Core.Logic.{◌⊎◌, inl, inr}
-use denote.Enum.Bare.{sameb}
 use Rattle.std.specs.Bool.{◌==◌}
 use Rattle.std.proofs.lemmas.List.{take_all, take-take, length-take}
-use Rattle.text_arguments.specs.contracts.Reason.{the_type}
 use mathlib.Core.List.{List, [], ◌∷◌, ◌++◌}
 use native.Mathlib.Omega.{arith}
 use borrow.Author.Tests.{eq-eqb, ne_eqb, lt-ltb, le-ltb}
 use Rattle.std.proofs.lemmas.Bool.{eqb-true}
 use Rattle.text_words.specs.Text.{trimmed_length}
-use lib.Dec.{eqb}
+use lib.Dec.{eqb, ltb}
 use lib.ListN.{length, take}
-use Rattle.laws.specs.Bools.{clash, cond_true, cond_false, or_false, or_true_left, or_true_right}
+use Rattle.laws.specs.Bools.{clash, and_none, and_true, cond_true, cond_false, or_false, or_true_left, or_true_right}
 use Rattle.text_arguments.specs.declared.Reason.{Reason}
-use Rattle.text_arguments.specs.declared.Reason.TheVariants.{UnknownWord, WordMissing, NoDecimal, DoesNotFit, NoHex, OddHex, WrongHex, WordTooMany, TooLong, NoPair, TooMany}
 use Rattle.text_out.specs.Spelling.{lined, decimal_of, value_of, filled_from, filled}
 use Rattle.text_out.specs.Texts.{codes}
 use Rattle.text_numbers.specs.declared.Asked.{Asked}
 use Rattle.text_numbers.specs.Wording.{words_of, why_of}
-use Rattle.text_answers.specs.Remarks.{kind_of, told_of, shown_of, spaced_of, comment_of, not_understood, refusal_of}
+use Rattle.text_answers.specs.Remarks.{kind_of, told_of, is_too_long, shown_of, spaced_of, comment_of, not_understood, refusal_of}
 use Rattle.text_answers.specs.declared.LineKind.TheVariants.{Remark, EarlierAnswer, Offer}
 
 -- a line without a byte, and one with a first byte: a remark, an earlier answer, an offer
@@ -62,40 +59,21 @@ spaced_some [] e h = clash e h
 spaced_some (x ∷ xs) e h = refl
 
 -- a line is written back whole, or the start of a too long one
-shown_whole : (line : List ℕ) {n : ℕ} → n ≡ length line → line ≡ take n line
-shown_whole line e = sym (take_all _ line (omega (arith, e)))
-
-pub shown_all : (line : List ℕ) (reason : Reason) {b : Bool} → b ≡ not (sameb the_type reason TooLong) → (b ≡ true) ⊎ ((b ≡ false) × (length line ≤ 64))
+pub shown_whole : (line : List ℕ) (reason : Reason) {b : Bool} → b ≡ is_too_long reason → (b ≡ false) ⊎ ((b ≡ true) × (length line ≤ 64))
     → line ≡ take (shown_of line reason) line
 unfolding shown_of
-shown_all line TooLong e (inl h) = clash h e
-shown_all line TooLong e (inr h) = shown_whole line (cond_false _ _ (le-ltb _ _ h.1))
-shown_all line UnknownWord e h = shown_whole line refl
-shown_all line WordMissing e h = shown_whole line refl
-shown_all line NoDecimal e h = shown_whole line refl
-shown_all line DoesNotFit e h = shown_whole line refl
-shown_all line NoHex e h = shown_whole line refl
-shown_all line OddHex e h = shown_whole line refl
-shown_all line WrongHex e h = shown_whole line refl
-shown_all line WordTooMany e h = shown_whole line refl
-shown_all line NoPair e h = shown_whole line refl
-shown_all line TooMany e h = shown_whole line refl
+shown_whole line reason {b} e h = sym (take_all _ line (omega (arith, cond_false (trimmed_length (take 64 line)) (length line) (go h))))
+  where
+    go : (b ≡ false) ⊎ ((b ≡ true) × (length line ≤ 64)) → (is_too_long reason && ltb 64 (length line)) ≡ false
+    go (inl k) = ap (λ (t : Bool). t && ltb 64 (length line)) (sym e ∙ k)
+    go (inr k) = ap (λ (t : Bool). is_too_long reason && t) (le-ltb 64 (length line) k.1) ∙ and_none _
 
-pub shown_start : (line : List ℕ) (reason : Reason) {b : Bool} {n : ℕ} → b ≡ not (sameb the_type reason TooLong) → b ≡ false → 64 < length line
+pub shown_start : (line : List ℕ) (reason : Reason) {b : Bool} {n : ℕ} → b ≡ is_too_long reason → b ≡ true → 64 < length line
     → n ≡ trimmed_length (take 64 line) → n ≤ length (take 64 line) → take n (take 64 line) ≡ take (shown_of line reason) line
 unfolding shown_of
-shown_start line TooLong {n = n} e h l t m =
-    take-take n 64 line (omega (arith, m, length-take 64 line)) ∙ ap (λ (k : ℕ). take k line) (t ∙ sym (cond_true _ _ (lt-ltb _ _ l)))
-shown_start line UnknownWord e h l t m = clash e h
-shown_start line WordMissing e h l t m = clash e h
-shown_start line NoDecimal e h l t m = clash e h
-shown_start line DoesNotFit e h l t m = clash e h
-shown_start line NoHex e h l t m = clash e h
-shown_start line OddHex e h l t m = clash e h
-shown_start line WrongHex e h l t m = clash e h
-shown_start line WordTooMany e h l t m = clash e h
-shown_start line NoPair e h l t m = clash e h
-shown_start line TooMany e h l t m = clash e h
+shown_start line reason {n = n} e h l t m =
+    take-take n 64 line (omega (arith, m, length-take 64 line))
+    ∙ ap (λ (k : ℕ). take k line) (t ∙ sym (cond_true _ _ (and_true _ _ (sym e ∙ h) (lt-ltb 64 (length line) l))))
 
 -- the parts of a comment
 pub comment_is : (line : List ℕ) (reason : Reason) {told : Reason} {shown : List ℕ} → told ≡ told_of line reason → shown ≡ take (shown_of line told) line

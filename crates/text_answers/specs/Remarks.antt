@@ -1,5 +1,5 @@
 -- What the programs say of a line: a comment, a line that is not understood, a refusal.
-use Rattle.std.specs.Prelude.{ℕ, ◌-◌, cond, ◌||◌, List, [], ◌∷◌, ◌++◌, eqb, ltb, length, take}
+use Rattle.std.specs.Prelude.{ℕ, ◌-◌, Bool, true, false, cond, ◌&&◌, ◌||◌, List, [], ◌∷◌, ◌++◌, eqb, ltb, length, take}
 use Prim.Native.Char.{code}
 use Rattle.text_words.specs.Text.{trimmed_length}
 use Rattle.text_arguments.specs.declared.Reason.{Reason}
@@ -26,9 +26,12 @@ told_of line reason = cond (ltb (max_line - 2) (length line)) TooLong reason
 abbrev pub shown_most : ℕ
 shown_most = 64
 
+abbrev pub is_too_long : Reason → Bool
+is_too_long TooLong = true
+is_too_long _ = false
+
 unfoldable pub shown_of : List ℕ → Reason → ℕ
-shown_of line TooLong = cond (ltb shown_most (length line)) (trimmed_length (take shown_most line)) (length line)
-shown_of line _ = length line
+shown_of line reason = cond (is_too_long reason && ltb shown_most (length line)) (trimmed_length (take shown_most line)) (length line)
 
 -- a blank and bytes, or nothing where there are none
 unfoldable pub spaced_of : List ℕ → List ℕ

@@ -4,7 +4,7 @@
 ghost use Rattle.std.specs.Prelude.{◌≡◌, take};
 ghost use Rattle.text_out.specs.Puts.{Puts};
 ghost use Rattle.text_out.specs.Spelling.{lined};
-ghost use Rattle.text_answers.specs.Remarks.{kind_of, told_of, shown_of, spaced_of, not_understood, refusal_of};
+ghost use Rattle.text_answers.specs.Remarks.{kind_of, told_of, is_too_long, shown_of, spaced_of, not_understood, refusal_of};
 
 use text_arguments::Reason;
 use text_in::MAX_LINE;
@@ -49,11 +49,18 @@ fn told(line: &[u8], reason: Reason) -> Reason
     }
 }
 
+// The reason is that the line is too long.
+fn is_too_long(reason: Reason) -> bool
+    ensures { result ≡ is_too_long reason }
+{
+    matches!(reason, Reason::TooLong)
+}
+
 // What of the line is written back.
 fn shown(line: &[u8], reason: Reason) -> &[u8]
     ensures { result.now ≡ take (shown_of line.now reason) line.now }
 {
-    if reason != Reason::TooLong || line.len() <= SHOWN {
+    if !is_too_long(reason) || line.len() <= SHOWN {
         return line;
     }
     let start = &line[..SHOWN];

@@ -1,20 +1,21 @@
 -- Groups of hexadecimal digits: the bytes that each of them adds.
 use Prim.Native.Nat.{ℕ, ◌+◌, ◌-◌, ◌%◌, ◌≤◌, ◌<◌, min}
-use mathlib.Core.Path.{◌≡◌, refl, sym, ◌∙◌, ap}
+use mathlib.Core.Path.{◌≡◌, refl, sym, ◌∙◌, ap, subst}
 use mathlib.Core.Bool.{true, false}
 use mathlib.Core.List.{List, [], ◌∷◌, ◌++◌}
 use native.Mathlib.Omega.{arith}
 use borrow.Author.Tests.{eq-eqb, ne_eqb}
-use lib.ListN.{length, drop, take, length-take, drop_of_length-le}
+use lib.ListN.{length, drop}
 use lib.Seq.{sets}
 use Rattle.std.specs.Prelude.{Result, Ok, Err}
 use Rattle.laws.specs.Bools.{cond_true, cond_false}
 use Rattle.laws.specs.Buffers.{Wrote, Owes, owes_start, owes_on, owes_end}
-use Rattle.text_words.specs.Text.{blanks, glyphs, all_digits, byte_of, bytes_of}
+use Rattle.text_words.specs.Text.{all_digits, byte_of, bytes_of}
+use Rattle.text_arguments.specs.declared.Arguments.{Arguments}
 use Rattle.text_arguments.specs.declared.Reason.{Reason}
 use Rattle.text_arguments.specs.declared.Reason.TheVariants.{NoHex, OddHex}
-use Rattle.text_arguments.specs.Reading.{found, behind, words_from, words_of, group_reason, bytes_if, groups_bytes, groups_reason, found_if, bytes_at, bytes_stored}
-use Rattle.text_arguments.proofs.Words.{skip_clear, skip_words, word_is}
+use Rattle.text_arguments.specs.Reading.{found, behind, start_of, word_of, end_of, words_of, group_reason, bytes_if, groups_bytes, groups_reason, found_if, bytes_at, bytes_stored}
+use Rattle.text_arguments.proofs.Words.{words_none, words_more, word_length, word_within, word_starts}
 
 -- two digits are the next byte; fewer are none
 pub bytes_two : {x y : ℕ} {xs rest : List ℕ} → xs ≡ x ∷ y ∷ rest → bytes_of xs ≡ (byte_of x y ∷ []) ++ bytes_of rest
@@ -47,83 +48,107 @@ module _ (g : List ℕ) where
   unfolding group_reason
   group_whole h k = sym (cond_true _ _ h ∙ cond_true _ _ (eq-eqb _ 0 k))
 
--- the groups from `start` on are left: their bytes are owed, and the reason is among them
-pub record Left (line : List ℕ) (first : ℕ) (before : List ℕ) (start count : ℕ) (after : List ℕ) : Type 0 where
-  pub few : count ≤ start
-  pub clear : blanks (drop start line) ≡ 0
-  pub owes : Owes before 0 (groups_bytes (words_of (drop first line))) count after (groups_bytes (words_of (drop start line)))
-  pub reason : groups_reason (words_of (drop start line)) ≡ groups_reason (words_of (drop first line))
+-- the groups from `at` on are left: their bytes are owed, and the reason is among them
+pub record Left (line : List ℕ) (first : ℕ) (before : List ℕ) (at count : ℕ) (after : List ℕ) : Type 0 where
+  pub few : count ≤ at
+  pub owes : Owes before 0 (groups_bytes (words_of (drop first line))) count after (groups_bytes (words_of (drop at line)))
+  pub reason : groups_reason (words_of (drop at line)) ≡ groups_reason (words_of (drop first line))
 
 module _ (line : List ℕ) where
-  pub left_start : (at : ℕ) {start : ℕ} → start ≡ at + blanks (drop at line) → (b : List ℕ) → Left line start b start 0 b
-  left_start at s b = record { few = omega arith; clear = skip_clear line at s; owes = owes_start b 0 _; reason = refl }
+  pub left_start : (at : ℕ) (b : List ℕ) → Left line at b at 0 b
+  left_start at b = record { few = omega arith; owes = owes_start b 0 _; reason = refl }
 
-  module _ {first start count : ℕ} {before after : List ℕ} (l : Left line first before start count after) where
-    left_end : length line ≤ start → Wrote before 0 (groups_bytes (words_of (drop first line))) count after × (groups_reason (words_of (drop first line)) ≡ Ok tt)
-    unfolding groups_bytes groups_reason words_from
-    left_end h =
-        let e = drop_of_length-le line h in
-        (owes_end (ap (λ (t : List ℕ). groups_bytes (words_of t)) e) l.owes, sym l.reason ∙ ap (λ (t : List ℕ). groups_reason (words_of t)) e)
+  module _ {first at count : ℕ} {before after : List ℕ} (l : Left line first before at count after) where
+    -- no group is left: the bytes are stored as far as there is room
+    pub left_done : {n : ℕ} → length line ≤ start_of line at → n ≡ min count (length before)
+        → (found n (length line) ≡ bytes_at line (length before) first) × (after ≡ sets before 0 (bytes_stored line first))
+    unfolding groups_bytes groups_reason bytes_at bytes_stored
+    left_done {n} h m =
+        let none = words_none line at h in
+        let w = owes_end (ap groups_bytes none) l.owes in
+        let why = sym l.reason ∙ ap groups_reason none in
+        let e : n ≡ min (length (groups_bytes (words_of (drop first line)))) (length before) = omega (arith, w.place, m) in (
+          ap (λ (n : ℕ). found n (length line)) e
+              ∙ ap (λ (r : Result (Unit {0}) Reason). found_if r (min (length (groups_bytes (words_of (drop first line)))) (length before)) (length line)) (sym why),
+          w.buffer,
+        )
 
-    module _ {end : ℕ} (h : start < length line) (e : end ≡ start + glyphs (drop start line)) where
+    module _ (h : start_of line at < length line) {group : List ℕ} (g : group ≡ word_of line at) where
       -- the next word is a group
-      group_is : words_of (drop start line) ≡ take (end - start) (drop start line) ∷ words_of (drop end line)
-      group_is = word_is line l.clear h e
+      group_is : words_of (drop at line) ≡ group ∷ words_of (drop (end_of line at) line)
+      group_is = words_more line at h ∙ ap (λ (w : List ℕ). w ∷ words_of (drop (end_of line at) line)) (sym g)
 
-      -- it has no bytes, and it says why
-      left_wrong : {r : Reason} → Err r ≡ group_reason (take (end - start) (drop start line))
-          → Wrote before 0 (groups_bytes (words_of (drop first line))) count after × (groups_reason (words_of (drop first line)) ≡ Err r)
-      unfolding groups_bytes groups_reason
-      left_wrong g = (
-        owes_end
-            (ap groups_bytes group_is
-            ∙ ap (λ (t : Result (Unit {0}) Reason). bytes_if t (bytes_of (take (end - start) (drop start line)) ++ groups_bytes (words_of (drop end line)))) (sym g)) l.owes,
-        sym l.reason ∙ ap groups_reason group_is ∙ ap (λ (t : Result (Unit {0}) Reason). behind t (λ u. groups_reason (words_of (drop end line)))) (sym g),
-      )
+      -- it has no bytes, and it says why: those before it are stored
+      pub left_refused : {r : Reason} → Err r ≡ group_reason group
+          → (Err r ≡ bytes_at line (length before) first) × (after ≡ sets before 0 (bytes_stored line first))
+      unfolding groups_bytes groups_reason bytes_at bytes_stored
+      left_refused {r} e =
+          let behind_it = words_of (drop (end_of line at) line) in
+          let w = owes_end (ap groups_bytes group_is ∙ ap (λ (t : Result (Unit {0}) Reason). bytes_if t (bytes_of group ++ groups_bytes behind_it)) (sym e)) l.owes in
+          let why = sym l.reason ∙ ap groups_reason group_is ∙ ap (λ (t : Result (Unit {0}) Reason). behind t (λ u. groups_reason behind_it)) (sym e) in (
+            ap (λ (t : Result (Unit {0}) Reason). found_if t (min (length (groups_bytes (words_of (drop first line)))) (length before)) (length line)) (sym why),
+            w.buffer,
+          )
+
+      pub group_room : count + length group ≤ end_of line at
+      group_room = omega (arith, l.few, word_length line at, ap length g)
 
       -- its bytes are stored, and the groups behind it are left
-      pub left_on : {next more : ℕ} {stored : List ℕ} → Ok tt ≡ group_reason (take (end - start) (drop start line))
-          → Wrote after count (bytes_of (take (end - start) (drop start line))) more stored → next ≡ end + blanks (drop end line)
-          → Left line first before next more stored
+      pub left_on : {more : ℕ} {stored : List ℕ} → Ok tt ≡ group_reason group → Wrote after count (bytes_of group) more stored
+          → Left line first before (end_of line at) more stored
       unfolding groups_bytes groups_reason
-      left_on {next} {more} {stored} g w s =
-          let group = take (end - start) (drop start line) in
-          let rest = skip_words line end s in
+      left_on e w =
+          let behind_it = words_of (drop (end_of line at) line) in
           record {
-            few = omega (arith, l.few, w.place, bytes_few group, length-take (end - start) (drop start line), s);
-            clear = skip_clear line end s;
+            few = omega (arith, group_room, w.place, bytes_few group);
             owes =
                 owes_on (bytes_of group)
-                (ap groups_bytes group_is ∙ ap (λ (t : Result (Unit {0}) Reason). bytes_if t (bytes_of group ++ groups_bytes (words_of (drop end line)))) (sym g)
-                ∙ ap (λ (ws : List (List ℕ)). bytes_of group ++ groups_bytes ws) (sym rest)) w l.owes;
+                (ap groups_bytes group_is ∙ ap (λ (t : Result (Unit {0}) Reason). bytes_if t (bytes_of group ++ groups_bytes behind_it)) (sym e)) w l.owes;
             reason =
-                ap groups_reason rest ∙ ap (λ (t : Result (Unit {0}) Reason). behind t (λ u. groups_reason (words_of (drop end line)))) g
-                ∙ sym (ap groups_reason group_is) ∙ l.reason;
+                sym (ap groups_reason group_is ∙ ap (λ (t : Result (Unit {0}) Reason). behind t (λ u. groups_reason behind_it)) (sym e)) ∙ l.reason;
           }
 
--- what is read, and what is stored
-module _ (line : List ℕ) (at : ℕ) {start : ℕ} (s : start ≡ at + blanks (drop at line)) where
-  stored_all : {b c : List ℕ} {n : ℕ} → Wrote b 0 (groups_bytes (words_of (drop start line))) n c → c ≡ sets b 0 (bytes_stored line at)
-  unfolding bytes_stored
-  stored_all {b} w = w.buffer ∙ ap (λ (ws : List (List ℕ)). sets b 0 (groups_bytes ws)) (skip_words line at s)
+-- the same of the arguments as they came and as they are now
+pub record LeftOf (a b : Arguments) (before : List ℕ) (count : ℕ) (after : List ℕ) : Type 0 where
+  pub same : b.line.now ≡ a.line.now
+  pub left : Left a.line.now a.at before b.at count after
 
-  bytes_read : (room : ℕ) {r : Result (Unit {0}) Reason} → groups_reason (words_of (drop start line)) ≡ r
-      → found_if r (min (length (groups_bytes (words_of (drop start line)))) room) (length line) ≡ bytes_at line room at
-  unfolding bytes_at
-  bytes_read room h =
-      let rest = skip_words line at s in
-      λ t. found_if ((sym h ∙ ap groups_reason rest) t) (min (length (groups_bytes (rest t))) room) (length line)
+pub all_left : (a : Arguments) (b : List ℕ) → LeftOf a a b 0 b
+all_left a b = record { same = refl; left = left_start a.line.now a.at b }
 
-  module _ {place count : ℕ} {before after : List ℕ} (l : Left line start before place count after) where
-    -- no group is left: the bytes are stored as far as there is room
-    pub left_done : {n : ℕ} → length line ≤ place → n ≡ min count (length before)
-        → (found n (length line) ≡ bytes_at line (length before) at) × (after ≡ sets before 0 (bytes_stored line at))
-    left_done {n} h m =
-        let w = left_end line l h in
-        let e : n ≡ min (length (groups_bytes (words_of (drop start line)))) (length before) = omega (arith, w.0.place, m) in
-        (ap (λ (n : ℕ). found n (length line)) e ∙ bytes_read (length before) w.1, stored_all w.0)
+module _ {a b : Arguments} {count : ℕ} {before after : List ℕ} (l : LeftOf a b before count after) where
+  pub none_left : {n : ℕ} → length b.line.now ≤ start_of b.line.now b.at → n ≡ min count (length before)
+      → (found n (length a.line.now) ≡ bytes_at a.line.now (length before) a.at) × (after ≡ sets before 0 (bytes_stored a.line.now a.at))
+  none_left h m = left_done a.line.now l.left (subst (λ (r : List ℕ). length r ≤ start_of r b.at) l.same h) m
 
-    -- a group has no bytes: those before it are stored
-    pub left_refused : {end : ℕ} {r : Reason} → place < length line → end ≡ place + glyphs (drop place line)
-        → Err r ≡ group_reason (take (end - place) (drop place line)) → (Err r ≡ bytes_at line (length before) at) × (after ≡ sets before 0 (bytes_stored line at))
-    left_refused h e g = let w = left_wrong line l h e g in (bytes_read (length before) w.1, stored_all w.0)
+  module _ (h : start_of b.line.now b.at < length b.line.now) {group : List ℕ} (g : group ≡ word_of b.line.now b.at) where
+    more : start_of a.line.now b.at < length a.line.now
+    more = subst (λ (r : List ℕ). start_of r b.at < length r) l.same h
+
+    word_here : group ≡ word_of a.line.now b.at
+    word_here = g ∙ ap (λ (r : List ℕ). word_of r b.at) l.same
+
+    pub group_refused : {r : Reason} → Err r ≡ group_reason group
+        → (Err r ≡ bytes_at a.line.now (length before) a.at) × (after ≡ sets before 0 (bytes_stored a.line.now a.at))
+    group_refused e = left_refused a.line.now l.left more word_here e
+
+    module _ {c : Arguments} (q : c ≡ record b { at = end_of b.line.now b.at }) where
+      place : c.at ≡ end_of a.line.now b.at
+      place = ap (λ (x : Arguments). x.at) q ∙ ap (λ (r : List ℕ). end_of r b.at) l.same
+
+      pub group_fits : count + length group ≤ c.at
+      group_fits = omega (arith, group_room a.line.now l.left more word_here, place)
+
+      pub group_read : {end : ℕ} {stored : List ℕ} → Ok tt ≡ group_reason group → Wrote after count (bytes_of group) end stored → LeftOf a c before end stored
+      group_read {end} {stored} e w =
+          record {
+            same = ap (λ (x : Arguments). x.line.now) q ∙ l.same;
+            left = subst (λ (n : ℕ). Left a.line.now a.at before n end stored) (sym place) (left_on a.line.now l.left more word_here e w);
+          }
+
+-- a word is read from the line that is left
+pub word_ends : (b c : Arguments) → start_of b.line.now b.at < length b.line.now → c ≡ record b { at = end_of b.line.now b.at }
+    → length c.line.now - c.at < length b.line.now - b.at
+word_ends b c h q =
+    let n = word_within b.line.now b.at h in
+    omega (arith, h, n, word_starts b.line.now b.at, ap (λ (x : Arguments). x.at) q, ap (λ (x : Arguments). length x.line.now) q)

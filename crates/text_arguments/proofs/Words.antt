@@ -1,16 +1,16 @@
 -- The words of a line one by one: from a place to the next word, and the word there with those behind it.
-use Prim.Native.Nat.{ℕ, suc, ◌+◌, ◌-◌, ◌<◌}
+use Prim.Native.Nat.{ℕ, suc, ◌+◌, ◌-◌, ◌≤◌, ◌<◌}
 use mathlib.Core.Path.{◌≡◌, refl, sym, ◌∙◌, ap}
 use mathlib.Core.Bool.{Bool, true, false, cond, not}
 use mathlib.Core.List.{List, [], ◌∷◌, ◌++◌, append_assoc, append-nil}
 use native.Mathlib.Nat.{not-suc-le-zero}
 use native.Mathlib.Omega.{arith}
-use lib.ListN.{length, drop, take, length-drop}
+use lib.ListN.{length, drop, take, length-drop, length-take, drop_of_length-le}
 use lib.Seq.{drop-drop}
 use Rattle.laws.specs.Bools.{cond_true}
 use Rattle.laws.specs.Runs.{leading, leading_again}
 use Rattle.text_words.specs.Text.{is_blank, blanks, glyphs}
-use Rattle.text_arguments.specs.Reading.{words_from, words_of}
+use Rattle.text_arguments.specs.Reading.{start_of, word_of, end_of, words_from, words_of}
 
 -- blanks before a word do no harm
 words_skip : (xs : List ℕ) → words_of (drop (blanks xs) xs) ≡ words_of xs
@@ -77,3 +77,30 @@ module _ (line : List ℕ) where
 
     pub word_some : start < end
     word_some = omega (arith, words_some (drop start line) clear (omega (arith, length-drop start line)))
+
+-- the words from a place on: none is left, or the next one and those behind it
+module _ (line : List ℕ) (at : ℕ) where
+  pub words_none : length line ≤ start_of line at → words_of (drop at line) ≡ []
+  unfolding words_from start_of
+  words_none h = sym (skip_words line at refl) ∙ ap words_of (drop_of_length-le line h)
+
+  pub words_more : start_of line at < length line → words_of (drop at line) ≡ word_of line at ∷ words_of (drop (end_of line at) line)
+  unfolding word_of end_of start_of
+  words_more h =
+      let start = start_of line at in
+      let n : start + glyphs (drop start line) - start ≡ glyphs (drop start line) = omega arith in
+      sym (skip_words line at refl) ∙ word_is line (skip_clear line at refl) h refl
+      ∙ ap (λ (k : ℕ). take k (drop start line) ∷ words_of (drop (end_of line at) line)) n
+
+  -- the place behind it is behind its bytes
+  pub word_within : start_of line at < length line → at < end_of line at
+  unfolding end_of start_of
+  word_within h = omega (arith, word_some line (skip_clear line at refl) h refl)
+
+  pub word_length : at + length (word_of line at) ≤ end_of line at
+  unfolding word_of end_of start_of
+  word_length = omega (arith, length-take (glyphs (drop (start_of line at) line)) (drop (start_of line at) line))
+
+  pub word_starts : at ≤ start_of line at
+  unfolding start_of
+  word_starts = omega arith

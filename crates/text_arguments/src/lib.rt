@@ -1,12 +1,11 @@
 // The arguments of a command, read from the left. The first that is wrong gives the reason, and the ones behind it are passed over.
 #![tactic(auto)]
 
-ghost use Rattle.std.specs.Prelude.{◌≡◌, ◌+◌, ◌^◌, ◌<◌, ◌≤◌, length, set, IfOk, MatchResult};
+ghost use Rattle.std.specs.Prelude.{◌≡◌, ◌+◌, ◌^◌, ◌<◌, ◌≤◌, length, set, IfOk, MatchOption};
 ghost use Rattle.std.proofs.lemmas.List.Edits.{sets};
 ghost use Rattle.laws.specs.Buffers.{Wrote};
 ghost use Rattle.text_words.specs.Text.{bytes_of};
 ghost use Rattle.text_arguments.specs.Reading.{any_number, reason_of, value_of, place_of, start_of, word_of, end_of, decimal_at, hex_at, group_reason, bytes_at, bytes_stored, end_at};
-ghost use Rattle.text_arguments.specs.declared.Reason.TheVariants.{WordMissing};
 
 use text_words::numbers::NotDecimal;
 use text_words::{numbers, words};
@@ -56,18 +55,20 @@ impl<'a> Arguments<'a> {
         Arguments { line, at }
     }
 
-    // The next word, and the place behind it.
-    fn word(&self) -> Result<(&'a [u8], usize), Reason>
-        ensures { MatchResult result
-            (λ w. (start_of self.now.line.now self.now.at < length self.now.line.now) × (w.0.now ≡ word_of self.now.line.now self.now.at) × (w.1 ≡ end_of self.now.line.now self.now.at))
-            (λ r. (length self.now.line.now ≤ start_of self.now.line.now self.now.at) × (r ≡ WordMissing)) }
+    // The next word, where there is one; the next argument is read behind it.
+    pub fn word(&mut self) -> Option<&'a [u8]>
+        ensures taken { MatchOption result
+            ((length self.old.line.now ≤ start_of self.old.line.now self.old.at) × (self.new ≡ self.old))
+            (λ word. (start_of self.old.line.now self.old.at < length self.old.line.now) × (word.now ≡ word_of self.old.line.now self.old.at)
+            × (self.new ≡ record self.old { at = end_of self.old.line.now self.old.at })) }
+        ensures fits { self.new.at < 2 ^ 64 }
     {
         let start = words::word_start(self.line, self.at);
         if self.line.len() <= start {
-            return Err(Reason::WordMissing);
+            return None;
         }
-        let end = words::word_end(self.line, start);
-        Ok((&self.line[start..end], end))
+        self.at = words::word_end(self.line, start);
+        Some(&self.line[start..self.at])
     }
 
     // The next word as a decimal number of at most `limit`.
@@ -76,9 +77,12 @@ impl<'a> Arguments<'a> {
         ensures place { self.new ≡ record self.old { at = place_of self.old.at (decimal_at self.old.line.now limit self.old.at) } }
         ensures most { IfOk result (λ value. value ≤ limit) }
     {
-        let (word, end) = self.word()?;
+        let mut behind = *self;
+        let Some(word) = behind.word() else {
+            return Err(Reason::WordMissing);
+        };
         let value = numbers::decimal(word, limit)?;
-        self.at = end;
+        *self = behind;
         Ok(value)
     }
 
@@ -97,14 +101,17 @@ impl<'a> Arguments<'a> {
         ensures place { self.new ≡ record self.old { at = place_of self.old.at (hex_at self.old.line.now width self.old.at) } }
         ensures below { IfOk result (λ value. value < 16 ^ width) }
     {
-        let (word, end) = self.word()?;
+        let mut behind = *self;
+        let Some(word) = behind.word() else {
+            return Err(Reason::WordMissing);
+        };
         if !numbers::all_hex(word) {
             return Err(Reason::NoHex);
         }
         if word.len() != width {
             return Err(Reason::WrongHex);
         }
-        self.at = end;
+        *self = behind;
         Ok(numbers::hex(word) as usize)
     }
 
@@ -114,16 +121,13 @@ impl<'a> Arguments<'a> {
         ensures place { self.new ≡ record self.old { at = place_of self.old.at (bytes_at self.old.line.now (length bytes.old) self.old.at) } }
         ensures stored { bytes.new ≡ sets bytes.old 0 (bytes_stored self.old.line.now self.old.at) }
     {
-        let line = self.line;
-        let mut start = words::word_start(line, self.at);
+        let mut rest = *self;
         let mut count = 0;
-        while start < line.len() {
-            let end = words::word_end(line, start);
-            whole_bytes(&line[start..end])?;
-            count = store(&line[start..end], bytes, count);
-            start = words::word_start(line, end);
+        while let Some(group) = rest.word() {
+            whole_bytes(group)?;
+            count = store(group, bytes, count);
         }
-        self.at = line.len();
+        self.at = self.line.len();
         Ok(count.min(bytes.len()))
     }
 
@@ -162,7 +166,7 @@ pub fn put(bytes: &mut [u8], at: usize, byte: u8)
 
 // The bytes of a group from place `from` on, as far as there is room for them; the place behind all of them is handed back.
 fn store(group: &[u8], bytes: &mut [u8], from: usize) -> usize
-    requires { from + length group.now < 18446744073709551616 }
+    requires { from + length group.now < 2 ^ 64 }
     ensures { Wrote bytes.old from (bytes_of group.now) result bytes.new }
 {
     for i in 0..group.len() / 2 {

@@ -1,5 +1,5 @@
-// Standard input by lines. The contracts give every result and every lent buffer. They cannot speak of what a call of the system
-// reads, so these are open: that a read is made, and the bytes that it delivers.
+// Standard input by lines. The contracts give every result, the lent line, and what is held afterwards. They cannot speak of what a
+// call of the system reads, so these are open: that a read is made, and the bytes that it delivers.
 #![tactic(auto)]
 
 ghost use Rattle.std.specs.Prelude.{◌≡◌, ◌+◌, min};
@@ -13,7 +13,8 @@ pub const CHUNK: usize = 65536;
 
 pub const MAX_LINE: usize = 16384;
 
-// What is read and not used yet, the bytes of the chunk from `from` to `to`, and where more comes from.
+// What is read and not used yet, the bytes of the chunk from `from` to `to`, and where more comes from. The chunk is fixed memory, and no
+// Vec: the programs take none from the heap.
 #[derive(Drop)]
 pub struct Input {
     pub stdin: Stdin,

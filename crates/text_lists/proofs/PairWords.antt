@@ -1,22 +1,23 @@
 -- Pairs: which words are none, and the bytes that each of them adds.
-use Prim.Native.Nat.{ℕ, suc, ◌+◌, ◌-◌, ◌*◌, ◌≤◌, ◌<◌}
-use mathlib.Core.Path.{◌≡◌, refl, sym, ◌∙◌, ap}
+use Prim.Native.Nat.{ℕ, suc, ◌+◌, ◌*◌, ◌≤◌, ◌<◌}
+use mathlib.Core.Path.{◌≡◌, refl, sym, ◌∙◌, ap, subst}
 use mathlib.Core.Bool.{Bool, true, false, cond}
-use mathlib.Core.List.{List, [], ◌∷◌, ◌++◌}
+use mathlib.Core.List.{List, ◌∷◌, ◌++◌}
 use native.Mathlib.Numerals.{add-one}
 use native.Mathlib.Omega.{arith}
 use borrow.Author.Tests.{eqb-true, lt-ltb, le-ltb, ltb-true}
 use lib.Dec.{eqb, ltb}
-use lib.ListN.{length, drop, take, get_or, set, drop_of_length-le}
+use lib.ListN.{length, drop, get_or, set}
 use lib.Seq.{sets}
 use Rattle.laws.specs.Bools.{cond_true, cond_false, and_left}
 use Rattle.laws.specs.Buffers.{Wrote, Owes, owes_start, owes_on, owes_end}
-use Rattle.text_words.specs.Text.{blanks, glyphs, byte_of}
+use Rattle.text_words.specs.Text.{byte_of}
 use Rattle.std.specs.Prelude.{Result, Ok, Err}
 use Rattle.text_arguments.specs.declared.Reason.{Reason}
 use Rattle.text_arguments.specs.declared.Reason.TheVariants.{NoPair, TooMany}
-use Rattle.text_arguments.specs.Reading.{found, behind, bytes_if, found_if, words_from, words_of}
-use Rattle.text_arguments.proofs.Words.{skip_clear, skip_words, word_is}
+use Rattle.text_arguments.specs.declared.Arguments.{Arguments}
+use Rattle.text_arguments.specs.Reading.{found, behind, bytes_if, found_if, start_of, word_of, end_of, words_of}
+use Rattle.text_arguments.proofs.Words.{words_none, words_more}
 use Rattle.text_lists.specs.Lists.{max_pair_words, is_pair, pair_bytes_of, pair_reason, pairs_bytes, pairs_reason, pairs_at, pairs_stored}
 
 -- why a word is not taken
@@ -56,102 +57,92 @@ pair_two : (n : ℕ) (w : List ℕ) → 2 * (n + 1) ≡ 2 * n + length (pair_byt
 unfolding pair_bytes_of
 pair_two n w = omega arith
 
--- the words from `start` on are left, behind `count` pairs: their bytes are owed, and the reason is among them
-pub record Left (line : List ℕ) (first : ℕ) (before : List ℕ) (start count : ℕ) (after : List ℕ) : Type 0 where
+-- the words from `at` on are left, behind `count` pairs: their bytes are owed, and the reason is among them
+pub record Left (line : List ℕ) (first : ℕ) (before : List ℕ) (at count : ℕ) (after : List ℕ) : Type 0 where
   pub few : count ≤ max_pair_words
-  pub clear : blanks (drop start line) ≡ 0
-  pub owes : Owes before 0 (pairs_bytes 0 (words_of (drop first line))) (2 * count) after (pairs_bytes count (words_of (drop start line)))
-  pub reason : pairs_reason count (words_of (drop start line)) ≡ pairs_reason 0 (words_of (drop first line))
-  pub all : count + length (words_of (drop start line)) ≡ length (words_of (drop first line))
+  pub owes : Owes before 0 (pairs_bytes 0 (words_of (drop first line))) (2 * count) after (pairs_bytes count (words_of (drop at line)))
+  pub reason : pairs_reason count (words_of (drop at line)) ≡ pairs_reason 0 (words_of (drop first line))
+  pub all : count + length (words_of (drop at line)) ≡ length (words_of (drop first line))
 
 module _ (line : List ℕ) where
-  pub left_start : (at : ℕ) {start : ℕ} → start ≡ at + blanks (drop at line) → (b : List ℕ) → Left line start b start 0 b
-  left_start at s b = record { few = omega arith; clear = skip_clear line at s; owes = owes_start b 0 _; reason = refl; all = omega arith }
+  left_start : (at : ℕ) (b : List ℕ) → Left line at b at 0 b
+  left_start at b = record { few = omega arith; owes = owes_start b 0 _; reason = refl; all = omega arith }
 
-  module _ {first start count : ℕ} {before after : List ℕ} (l : Left line first before start count after) where
-    -- no word is left
-    module _ (h : length line ≤ start) where
-      none_left : words_of (drop start line) ≡ []
-      unfolding words_from
-      none_left = ap words_of (drop_of_length-le line h)
+  module _ {first at count : ℕ} {before after : List ℕ} (l : Left line first before at count after) where
+    -- no word is left: all are pairs
+    left_done : length line ≤ start_of line at → (found count (length line) ≡ pairs_at line first) × (after ≡ sets before 0 (pairs_stored line first))
+    unfolding pairs_bytes pairs_reason pairs_at pairs_stored
+    left_done h =
+        let none = words_none line at h in
+        let w = owes_end (ap (pairs_bytes count) none) l.owes in
+        let why = sym l.reason ∙ ap (pairs_reason count) none in
+        let e : count ≡ length (words_of (drop first line)) = omega (arith, l.all, ap length none) in (
+          ap (λ (n : ℕ). found n (length line)) e
+              ∙ ap (λ (r : Result (Unit {0}) Reason). found_if r (length (words_of (drop first line))) (length line)) (sym why),
+          w.buffer,
+        )
 
-      end_wrote : Wrote before 0 (pairs_bytes 0 (words_of (drop first line))) (2 * count) after
-      unfolding pairs_bytes
-      end_wrote = owes_end (ap (pairs_bytes count) none_left) l.owes
+    module _ (h : start_of line at < length line) {word : List ℕ} (g : word ≡ word_of line at) where
+      next_is : words_of (drop at line) ≡ word ∷ words_of (drop (end_of line at) line)
+      next_is = words_more line at h ∙ ap (λ (w : List ℕ). w ∷ words_of (drop (end_of line at) line)) (sym g)
 
-      end_reason : pairs_reason 0 (words_of (drop first line)) ≡ Ok tt
-      unfolding pairs_reason
-      end_reason = sym l.reason ∙ ap (pairs_reason count) none_left
-
-      end_count : count ≡ length (words_of (drop first line))
-      end_count = omega (arith, l.all, ap length none_left)
-
-    module _ {end : ℕ} (h : start < length line) (e : end ≡ start + glyphs (drop start line)) where
-      next_is : words_of (drop start line) ≡ take (end - start) (drop start line) ∷ words_of (drop end line)
-      next_is = word_is line l.clear h e
-
-      -- the next is not taken, and it says why
-      module _ {r : Reason} (g : Err r ≡ pair_reason count (take (end - start) (drop start line))) where
-        wrong_wrote : Wrote before 0 (pairs_bytes 0 (words_of (drop first line))) (2 * count) after
-        unfolding pairs_bytes
-        wrong_wrote =
-            owes_end
-            (ap (pairs_bytes count) next_is
-            ∙ ap (λ (t : Result (Unit {0}) Reason). bytes_if t (pair_bytes_of (take (end - start) (drop start line)) ++ pairs_bytes (suc count) (words_of (drop end line))))
-            (sym g)) l.owes
-
-        wrong_reason : pairs_reason 0 (words_of (drop first line)) ≡ Err r
-        unfolding pairs_reason
-        wrong_reason =
-            sym l.reason ∙ ap (pairs_reason count) next_is
-            ∙ ap (λ (t : Result (Unit {0}) Reason). behind t (λ u. pairs_reason (suc count) (words_of (drop end line)))) (sym g)
+      -- the next is not taken, and it says why: the pairs before it are stored
+      left_refused : {r : Reason} → Err r ≡ pair_reason count word → (Err r ≡ pairs_at line first) × (after ≡ sets before 0 (pairs_stored line first))
+      unfolding pairs_bytes pairs_reason pairs_at pairs_stored
+      left_refused e =
+          let behind_it = words_of (drop (end_of line at) line) in
+          let w = owes_end (ap (pairs_bytes count) next_is ∙ ap (λ (t : Result (Unit {0}) Reason). bytes_if t (pair_bytes_of word ++ pairs_bytes (suc count) behind_it)) (sym e)) l.owes in
+          let why = sym l.reason ∙ ap (pairs_reason count) next_is ∙ ap (λ (t : Result (Unit {0}) Reason). behind t (λ u. pairs_reason (suc count) behind_it)) (sym e) in
+          (ap (λ (t : Result (Unit {0}) Reason). found_if t (length (words_of (drop first line))) (length line)) (sym why), w.buffer)
 
       -- its bytes are stored, and the words behind it are left
-      pub left_on : {next place : ℕ} {stored : List ℕ} → Ok tt ≡ pair_reason count (take (end - start) (drop start line))
-          → Wrote after (2 * count) (pair_bytes_of (take (end - start) (drop start line))) place stored → next ≡ end + blanks (drop end line)
-          → Left line first before next (count + 1) stored
+      left_on : {place : ℕ} {stored : List ℕ} → Ok tt ≡ pair_reason count word → Wrote after (2 * count) (pair_bytes_of word) place stored
+          → Left line first before (end_of line at) (count + 1) stored
       unfolding pairs_bytes pairs_reason
-      left_on {next} {place} {stored} g w s =
-          let word = take (end - start) (drop start line) in
-          let rest = skip_words line end s in
+      left_on {place} {stored} e w =
+          let behind_it = words_of (drop (end_of line at) line) in
           let two : Wrote after (2 * count) (pair_bytes_of word) (2 * (count + 1)) stored = record { buffer = w.buffer; place = pair_two count word } in
           record {
-            few = omega (arith, pair_fits count word g);
-            clear = skip_clear line end s;
+            few = omega (arith, pair_fits count word e);
             owes =
                 owes_on (pair_bytes_of word)
-                (ap (pairs_bytes count) next_is
-                ∙ ap (λ (t : Result (Unit {0}) Reason). bytes_if t (pair_bytes_of word ++ pairs_bytes (suc count) (words_of (drop end line)))) (sym g)
-                ∙ sym (λ i. pair_bytes_of word ++ pairs_bytes (add-one count i) (rest i))) two l.owes;
+                (ap (pairs_bytes count) next_is ∙ ap (λ (t : Result (Unit {0}) Reason). bytes_if t (pair_bytes_of word ++ pairs_bytes (suc count) behind_it)) (sym e)
+                ∙ sym (λ i. pair_bytes_of word ++ pairs_bytes (add-one count i) behind_it)) two l.owes;
             reason =
-                (λ i. pairs_reason (add-one count i) (rest i))
-                ∙ sym (ap (pairs_reason count) next_is ∙ ap (λ (t : Result (Unit {0}) Reason). behind t (λ u. pairs_reason (suc count) (words_of (drop end line)))) (sym g))
-                ∙ l.reason;
-            all = omega (arith, l.all, ap length next_is, ap length rest);
+                (λ i. pairs_reason (add-one count i) behind_it)
+                ∙ sym (ap (pairs_reason count) next_is ∙ ap (λ (t : Result (Unit {0}) Reason). behind t (λ u. pairs_reason (suc count) behind_it)) (sym e)) ∙ l.reason;
+            all = omega (arith, l.all, ap length next_is);
           }
 
--- what is read, and what is stored
-module _ (line : List ℕ) (at : ℕ) {start : ℕ} (s : start ≡ at + blanks (drop at line)) where
-  stored_all : {b c : List ℕ} {n : ℕ} → Wrote b 0 (pairs_bytes 0 (words_of (drop start line))) n c → c ≡ sets b 0 (pairs_stored line at)
-  unfolding pairs_stored
-  stored_all {b} w = w.buffer ∙ ap (λ (ws : List (List ℕ)). sets b 0 (pairs_bytes 0 ws)) (skip_words line at s)
+-- the same of the arguments as they came and as they are now
+pub record LeftOf (a b : Arguments) (before : List ℕ) (count : ℕ) (after : List ℕ) : Type 0 where
+  pub same : b.line.now ≡ a.line.now
+  pub left : Left a.line.now a.at before b.at count after
 
-  pairs_read : {r : Result (Unit {0}) Reason} → pairs_reason 0 (words_of (drop start line)) ≡ r
-      → found_if r (length (words_of (drop start line))) (length line) ≡ pairs_at line at
-  unfolding pairs_at
-  pairs_read h =
-      let rest = skip_words line at s in
-      λ t. found_if ((sym h ∙ ap (pairs_reason 0) rest) t) (length (rest t)) (length line)
+pub all_left : (a : Arguments) (b : List ℕ) → LeftOf a a b 0 b
+all_left a b = record { same = refl; left = left_start a.line.now a.at b }
 
-  module _ {place count : ℕ} {before after : List ℕ} (l : Left line start before place count after) where
-    -- no word is left: all are pairs
-    pub left_done : length line ≤ place → (found count (length line) ≡ pairs_at line at) × (after ≡ sets before 0 (pairs_stored line at))
-    left_done h = (
-      ap (λ (n : ℕ). found n (length line)) (end_count line l h) ∙ pairs_read (end_reason line l h),
-      stored_all (end_wrote line l h),
-    )
+module _ {a b : Arguments} {count : ℕ} {before after : List ℕ} (l : LeftOf a b before count after) where
+  pub none_left : length b.line.now ≤ start_of b.line.now b.at
+      → (found count (length a.line.now) ≡ pairs_at a.line.now a.at) × (after ≡ sets before 0 (pairs_stored a.line.now a.at))
+  none_left h = left_done a.line.now l.left (subst (λ (r : List ℕ). length r ≤ start_of r b.at) l.same h)
 
-    -- a word is not taken: the pairs before it are stored
-    pub left_refused : {end : ℕ} {r : Reason} → place < length line → end ≡ place + glyphs (drop place line)
-        → Err r ≡ pair_reason count (take (end - place) (drop place line)) → (Err r ≡ pairs_at line at) × (after ≡ sets before 0 (pairs_stored line at))
-    left_refused h e g = (pairs_read (wrong_reason line l h e g), stored_all (wrong_wrote line l h e g))
+  module _ (h : start_of b.line.now b.at < length b.line.now) {word : List ℕ} (g : word ≡ word_of b.line.now b.at) where
+    more : start_of a.line.now b.at < length a.line.now
+    more = subst (λ (r : List ℕ). start_of r b.at < length r) l.same h
+
+    word_here : word ≡ word_of a.line.now b.at
+    word_here = g ∙ ap (λ (r : List ℕ). word_of r b.at) l.same
+
+    pub pair_refused : {r : Reason} → Err r ≡ pair_reason count word
+        → (Err r ≡ pairs_at a.line.now a.at) × (after ≡ sets before 0 (pairs_stored a.line.now a.at))
+    pair_refused e = left_refused a.line.now l.left more word_here e
+
+    pub pair_read : {c : Arguments} → c ≡ record b { at = end_of b.line.now b.at } → {place : ℕ} {stored : List ℕ} → Ok tt ≡ pair_reason count word
+        → Wrote after (2 * count) (pair_bytes_of word) place stored → LeftOf a c before (count + 1) stored
+    pair_read {c} q {place} {stored} e w =
+        let there = ap (λ (x : Arguments). x.at) q ∙ ap (λ (r : List ℕ). end_of r b.at) l.same in
+        record {
+          same = ap (λ (x : Arguments). x.line.now) q ∙ l.same;
+          left = subst (λ (n : ℕ). Left a.line.now a.at before n (count + 1) stored) (sym there) (left_on a.line.now l.left more word_here e w);
+        }

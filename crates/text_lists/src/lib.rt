@@ -1,7 +1,7 @@
 // Lists of words in a line: pairs, what names a row, and where hexadecimal groups end.
 #![tactic(auto)]
 
-ghost use Rattle.std.specs.Prelude.{◌≡◌, ◌+◌, ◌-◌, ◌≤◌, ◌<◌, length, drop};
+ghost use Rattle.std.specs.Prelude.{◌≡◌, ◌+◌, ◌-◌, ◌^◌, ◌≤◌, ◌<◌, length, drop};
 ghost use Rattle.std.proofs.lemmas.List.Edits.{sets};
 ghost use Rattle.laws.specs.Buffers.{Wrote};
 ghost use Rattle.text_arguments.specs.Reading.{value_of, place_of};
@@ -55,7 +55,7 @@ fn taken_as_pair(word: &[u8], taken: usize) -> Result<(), Reason>
 
 // The two bytes of a pair from place `at` on, as far as there is room for them.
 fn store(word: &[u8], bytes: &mut [u8], at: usize)
-    requires { (length word.now ≡ 5) × (at + 2 < 18446744073709551616) }
+    requires { (length word.now ≡ 5) × (at + 2 < 2 ^ 64) }
     ensures { Wrote bytes.old at (pair_bytes_of word.now) (at + 2) bytes.new }
 {
     text_arguments::put(bytes, at, numbers::byte(word[0], word[1]));
@@ -68,17 +68,14 @@ pub fn pairs(arguments: &mut Arguments, bytes: &mut [u8]) -> Result<usize, Reaso
     ensures place { arguments.new ≡ record arguments.old { at = place_of arguments.old.at (pairs_at arguments.old.line.now arguments.old.at) } }
     ensures stored { bytes.new ≡ sets bytes.old 0 (pairs_stored arguments.old.line.now arguments.old.at) }
 {
-    let line = arguments.line;
-    let mut start = words::word_start(line, arguments.at);
+    let mut rest = *arguments;
     let mut count = 0;
-    while start < line.len() {
-        let end = words::word_end(line, start);
-        taken_as_pair(&line[start..end], count)?;
-        store(&line[start..end], bytes, 2 * count);
+    while let Some(word) = rest.word() {
+        taken_as_pair(word, count)?;
+        store(word, bytes, 2 * count);
         count += 1;
-        start = words::word_start(line, end);
     }
-    arguments.at = line.len();
+    arguments.at = arguments.line.len();
     Ok(count)
 }
 

@@ -17,7 +17,7 @@ unfoldable has : Table → Bool
 has rows = any (λ (row : ℕ × List ℕ). same_word row.1 no_words) rows
 
 given_back : (asked : Asked) → has (table_of asked) ≡ false
-unfolding has any same_word filled_from value_of decimal_of width_of places_by
+unfolding has any filled_from value_of decimal_of width_of places_by
 given_back Record = refl
 given_back Picture = refl
 given_back Telegram = refl
@@ -27,7 +27,7 @@ given_back Unit = refl
 given_back Compare = refl
 
 reason : (r : Reason) → same_word (why_of r) no_words ≡ false
-unfolding same_word filled_from value_of decimal_of width_of places_by
+unfolding filled_from value_of decimal_of width_of places_by
 reason UnknownWord = refl
 reason WordMissing = refl
 reason NoDecimal = refl

@@ -127,7 +127,7 @@ fn of_compare(output: &mut Output, number: u8)
     }
 }
 
-// What a number given back means, by what was asked.
+// What a number given back means, by what was asked. C interface: the number is what C is given, and it is printed.
 pub fn meaning(output: &mut Output, asked: Asked, number: u8)
     ensures { Puts output.old (lined (words_of asked number)) output.new }
 {

@@ -1,5 +1,5 @@
-// Standard output through a buffer. The contracts give every result and every lent buffer. They cannot speak of what a call of the
-// system writes, so these are open: that what waits is what is written, and whether a write fails.
+// Standard output through a buffer. The contracts give what waits in it afterwards. They cannot speak of what a call of the system
+// writes, so these are open: that what waits is what is written, and whether a write fails.
 #![tactic(auto)]
 
 ghost use Rattle.std.specs.Prelude.{◌≡◌, ◌≤◌, ◌<◌, length, false, [], ◌∷◌};
@@ -14,7 +14,8 @@ use text_words::digits;
 // How many bytes wait at most.
 pub const SPACE: usize = 65536;
 
-// What waits to be written, at the start of its buffer, and where it goes; whether a write failed.
+// What waits to be written, at the start of its buffer, and where it goes; whether a write failed. The buffer is fixed memory, and no Vec:
+// the programs take none from the heap.
 #[derive(Drop)]
 pub struct Output {
     pub stdout: Stdout,
@@ -141,6 +142,7 @@ impl Output {
     }
 
     // A template with the values in it, from the first on: %d stands for one in decimal, %b for two hexadecimal digits, %w for four.
+    // No `write!`: no clause says what that puts.
     pub fn form(&mut self, template: &[u8], values: &[usize])
         ensures { Puts self.old (filled template.now values.now) self.new }
     {

@@ -1,5 +1,5 @@
 // Numbers and bytes as a script writes them.
-ghost use Rattle.std.specs.Prelude.{◌≡◌, ◌%◌, ◌≤◌, min, IfOk};
+ghost use Rattle.std.specs.Prelude.{◌≡◌, ◌%◌, ◌^◌, ◌≤◌, IfOk};
 ghost use Rattle.text_words.specs.Text.{hex_value, all_digits, number, decimal_of, byte_of};
 
 use super::digits;
@@ -54,7 +54,7 @@ pub fn all_hex(word: &[u8]) -> bool
 
 // The last eight hexadecimal digits of a word as a number.
 pub fn hex(word: &[u8]) -> u32
-    ensures { result ≡ number 16 word.now % 4294967296 }
+    ensures { result ≡ number 16 word.now % 2 ^ 32 }
 {
     let mut value: usize = 0;
     for byte in word {
@@ -69,11 +69,4 @@ pub fn byte(high: u8, low: u8) -> u8
 {
     let value = counted(high) * 16 + counted(low);
     (value % 256) as u8
-}
-
-// The smaller of two numbers.
-pub fn smaller(a: usize, b: usize) -> usize
-    ensures { (result ≡ min a b) × (result ≤ a) × (result ≤ b) }
-{
-    a.min(b)
 }

@@ -28,7 +28,7 @@ pub fn word_end(line: &[u8], from: usize) -> usize
     from.max(line.len())
 }
 
-// The same bytes: what `==` says of two words.
+// The same bytes: what `==` says of two words. No command calls it; the edit first_byte_not_compared holds it.
 pub fn same(word: &[u8], other: &[u8]) -> bool
     ensures { result ≡ same_word word.now other.now }
 {

@@ -75,21 +75,17 @@ fn order(line: &[u8], at: usize, bytes: &mut [u8]) -> Result<Command, Reason> {
 // The command of a line, and the bytes of an order or of pairs in `bytes`; why there is none.
 pub(crate) fn parse(line: &[u8], bytes: &mut [u8]) -> Result<Command, Reason> {
     let start = words::word_start(line, 0);
-    if line.len() <= start {
-        return Err(Reason::UnknownWord);
-    }
-    if line[start] == b'<' {
+    if line.get(start) == Some(&b'<') {
         return order(line, start + 1, bytes);
     }
-    let end = words::word_end(line, start + 1);
-    let arguments = Arguments::from(line, end);
-    match &line[start..end] {
-        b"unit" => unit(arguments, bytes),
-        b"room" => room(arguments),
-        b"found" => found(arguments),
-        b"known" => bare(arguments, Command::Known),
-        b"list" => bare(arguments, Command::List),
-        b"self" => bare(arguments, Command::Myself),
+    let mut arguments = Arguments::from(line, 0);
+    match arguments.word() {
+        Some(b"unit") => unit(arguments, bytes),
+        Some(b"room") => room(arguments),
+        Some(b"found") => found(arguments),
+        Some(b"known") => bare(arguments, Command::Known),
+        Some(b"list") => bare(arguments, Command::List),
+        Some(b"self") => bare(arguments, Command::Myself),
         _ => Err(Reason::UnknownWord),
     }
 }

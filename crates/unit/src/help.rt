@@ -1,22 +1,6 @@
 // What --help says.
-use std::env::FillError;
-use std::io::Stdout;
-use std::rt::Env;
-
-// Whether an argument stands behind the program's name, of any length.
-pub(crate) fn is_asked_for(rt: HostRuntime) -> bool {
-    let mut first = [0u8; 1];
-    match rt.arg(1, &mut first) {
-        Ok(_) => true,
-        Err(FillError::TooLong) => true,
-        Err(FillError::NotPresent) => false,
-    }
-}
-
-// The commands. A failed write changes nothing.
-pub(crate) fn write(stdout: Stdout) {
-    let _ = stdout.write_all(
-        b"unit: plays a unit of a MOST ring to a master, from a bench script on standard input.
+pub const TEXT: &[u8] =
+    b"unit: plays a unit of a MOST ring to a master, from a bench script on standard input.
 
   < HEX                       offers an order: = read and the unit's answer, or a refusal
   unit POSITION ADDRESS PAIRS a unit there with these pairs, as unit 2 0102 22.01 31.01
@@ -31,6 +15,4 @@ pub(crate) fn write(stdout: Stdout) {
 The lines that ringbox writes can be read as they stand, and ringbox reads what this writes.
 In: < 4D4F 01 00000001 01  ASK position 1     Out: > 4D45 04 00000001 01 0101 00
 What it writes is a script too: fed back in, it gives the same text again.
-",
-    );
-}
+";

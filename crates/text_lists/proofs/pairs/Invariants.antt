@@ -1,11 +1,11 @@
 -- The words that are left are still to be taken, and the reason is among them.
 use Prim.Native.Nat.{◌-◌}
 use lib.ListN.{length}
-use Rattle.text_lists.proofs.PairWords.{Left}
+use Rattle.text_lists.proofs.PairWords.{LeftOf}
 use Rattle.text_lists.proofs.pairs.Given as goal
 
-abbrev pub invariant-loop-start : goal.invariant-loop-start
-invariant-loop-start l = Left l.line l.initial.start l.initial.bytes l.start l.count l.bytes
+abbrev pub invariant-loop-word : goal.invariant-loop-word
+invariant-loop-word l = LeftOf l.initial.rest l.rest l.initial.bytes l.count l.bytes
 
-abbrev pub decreases-loop-start : goal.decreases-loop-start
-decreases-loop-start l = length l.line - l.start
+abbrev pub decreases-loop-word : goal.decreases-loop-word
+decreases-loop-word l = length l.rest.line.now - l.rest.at

@@ -1,7 +1,6 @@
--- `lines` is safe, and its loop ends.
-use Prim.Native.Nat.{◌-◌}
+-- Each order that is put leaves fewer bytes.
 use lib.ListN.{length}
 use Rattle.ringbox.proofs.order_lines.lines.Given as goal
 
-abbrev pub decreases-loop-at : goal.decreases-loop-at
-decreases-loop-at l = length l.bytes - l.at
+abbrev pub decreases-loop-rest : goal.decreases-loop-rest
+decreases-loop-rest l = length l.rest

@@ -1,6 +1,0 @@
--- `kept_pairs` is safe, and its loop ends.
-use Prim.Native.Nat.{◌-◌}
-use Rattle.ringbox.proofs.show.kept_pairs.Given as goal
-
-abbrev pub decreases-loop-i : goal.decreases-loop-i
-decreases-loop-i l = l.n - l.i

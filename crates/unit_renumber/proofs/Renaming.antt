@@ -10,7 +10,7 @@ use lib.ListN.{length, get_or, set, take, drop}
 use lib.Seq.{set-get_or, set_out}
 use borrow.Author.Tests.{eqb-true}
 use Rattle.laws.specs.Lists.{any}
-use Rattle.laws.specs.Bools.{and_left, or_assoc, or_false, or_true_right, cond_true, cond_false, cond_same}
+use Rattle.laws.specs.Bools.{and_left, or_assoc, cond_true, cond_false, cond_same}
 use Rattle.laws.specs.Views.{firsts, firsts_set}
 use Rattle.rules.specs.Picture.{Pair, same_pair, holds}
 use Rattle.rules_unit.specs.Slave.{without, rename, renumbered}
@@ -81,18 +81,14 @@ module _ (b o n : ℕ) (ps : List Pair) {k : ℕ} (e : k ≡ first_at (pair_of b
   apart : holds (without (pair_of b o) ps) (pair_of b n) ≡ (holds (take k ps) (pair_of b n) || holds (drop (k + 1) ps) (pair_of b n))
   apart = rw (add-one k, e) (others (pair_of b o) ps (pair_of b n))
 
-  pub barred_before : holds (take k ps) (pair_of b n) ≡ true → ps ≡ renumbered b o n ps
+  pub barred : (holds (take k ps) (pair_of b n) || holds (drop (k + 1) ps) (pair_of b n)) ≡ true → ps ≡ renumbered b o n ps
   unfolding renumbered pair_of
-  barred_before h = sym (cond_true ps _ (apart ∙ ap (λ (t : Bool). t || holds (drop (k + 1) ps) (pair_of b n)) h))
+  barred h = sym (cond_true ps _ (apart ∙ h))
 
-  pub barred_behind : holds (drop (k + 1) ps) (pair_of b n) ≡ true → ps ≡ renumbered b o n ps
+  pub moved : (holds (take k ps) (pair_of b n) || holds (drop (k + 1) ps) (pair_of b n)) ≡ false → set ps k (pair_of b n) ≡ renumbered b o n ps
   unfolding renumbered pair_of
-  barred_behind h = sym (cond_true ps _ (apart ∙ or_true_right (holds (take k ps) (pair_of b n)) (holds (drop (k + 1) ps) (pair_of b n)) h))
-
-  pub moved : holds (take k ps) (pair_of b n) ≡ false → holds (drop (k + 1) ps) (pair_of b n) ≡ false → set ps k (pair_of b n) ≡ renumbered b o n ps
-  unfolding renumbered pair_of
-  moved h l =
-      sym (cond_false ps (rename (pair_of b o) (pair_of b n) ps) (apart ∙ or_false (holds (take k ps) (pair_of b n)) (holds (drop (k + 1) ps) (pair_of b n)) h l)
+  moved h =
+      sym (cond_false ps (rename (pair_of b o) (pair_of b n) ps) (apart ∙ h)
       ∙ renamed (pair_of b o) (pair_of b n) ps ∙ ap (λ (i : ℕ). set ps i (pair_of b n)) (sym e))
 
 -- two arrays of one length: a number stored at that place makes another pair of the same block

@@ -234,7 +234,7 @@ impl NetworkSlave {
         if position.0 != self.position.0 {
             return unit.hand_back(DONE);
         }
-        if address.same(self.address) {
+        if address == self.address {
             return unit.renumbered(block, old, new).answer(out);
         }
         unit.hand_back(DONE)

@@ -1,39 +1,22 @@
 -- A search: the place so far, and how far it is from there.
+use Rattle.rules.specs.Picture.{same_pair}
 use Rattle.unit_renumber.proofs.Renaming.{first_here, first_none, first_on}
-use Rattle.wire_pairs.proofs.Arrays.{pairs_here, pairs_past}
-use Rattle.wire_pairs.specs.View.{pair_of, pairs_of}
+use Rattle.wire_pairs.specs.View.{pair_in, pair_of, pairs_of}
+use lib.ListN.{drop_of_length-le}
 use mathlib.Core.Path.{◌∙◌, sym}
 use native.Mathlib.Omega.{arith}
-use borrow.Author.Rules.{rules}
 use Rattle.unit_renumber.proofs.first_of.Goals as goal
 
-pub loop-i-init : goal.loop-i-init
-loop-i-init c = (omega arith, search rules, search rules, omega arith)
-
-pub returns-then-same : goal.returns-then-same
-unfolding pairs_of
-returns-then-same c =
-    let w = c.loop-i.invariant in
-    let s = c.args.pairs in
-    let i = c.loop-i.i in
-    let a = pair_of c.args.block c.args.number in
-    let here = pairs_here _ s.blocks s.numbers w.1 w.2 s.count i (omega (arith, c.len-n.ensures, c.loop-i-test.true)) in
-    omega (arith, w.3, first_here a here (sym c.same.ensures ∙ c.if-same.true))
+pub returns-then-eq : goal.returns-then-eq
+unfolding same_pair pair_in pair_of
+returns-then-eq c =
+    (omega (arith, c.loop-i.invariant, first_here (pair_in c.args.pair) c.at.ensures (sym c.eq.ensures ∙ c.if-eq.true)), omega (arith, c.len-i-end.ensures.0, c.loop-i-test.true))
 
 pub loop-i-preserved : goal.loop-i-preserved
-unfolding pairs_of
-loop-i-preserved c =
-    let w = c.loop-i.invariant in
-    let s = c.args.pairs in
-    let i = c.loop-i.i in
-    let a = pair_of c.args.block c.args.number in
-    let here = pairs_here _ s.blocks s.numbers w.1 w.2 s.count i (omega (arith, c.len-n.ensures, c.loop-i-test.true)) in
-    (omega arith, w.1, w.2, omega (arith, w.3, first_on a here (sym c.same.ensures ∙ c.if-same.false)))
+unfolding same_pair pair_in pair_of
+loop-i-preserved c = omega (arith, c.loop-i.invariant, first_on (pair_in c.args.pair) c.at.ensures (sym c.eq.ensures ∙ c.if-eq.false))
 
 pub returns : goal.returns
-unfolding pairs_of
 returns c =
-    let w = c.loop-i.invariant in
-    let s = c.args.pairs in
-    let a = pair_of c.args.block c.args.number in
-    omega (arith, w.3, first_none a (pairs_past _ s.blocks s.numbers w.1 w.2 s.count c.loop-i.i (omega (arith, c.len-n.ensures, c.loop-i-test.false))))
+    let many = c.len-i-end.ensures.1 in
+    omega (arith, c.loop-i.invariant, many, c.loop-i.auto.i-end, c.loop-i-test.false, first_none (pair_in c.args.pair) (drop_of_length-le (pairs_of c.args.pairs.now) {i = c.loop-i.i} (omega (arith, many, c.loop-i-test.false))))

@@ -1,8 +1,7 @@
 // A node row: an entry with the position that it stands for.
 #![tactic(auto)]
 
-ghost use Rattle.std.specs.Prelude.{◌≡◌, min};
-ghost use Rattle.rules.specs.House.{max_pairs};
+ghost use Rattle.std.specs.Prelude.{◌≡◌};
 ghost use Rattle.wire_pairs.specs.View.{pairs_of};
 ghost use Rattle.row_node.specs.View.{held_pairs, node_row_of, node_row, held_row, no_node_row};
 
@@ -19,57 +18,48 @@ pub struct NodeRow {
     pub entry: NodeEntry,
 }
 
-// As many pairs as there are places for.
-fn held(count: u8) -> u8
-    ensures { result ≡ min count max_pairs }
-{
-    if count < MAX_PAIRS as u8 {
-        return count;
-    }
-    MAX_PAIRS as u8
-}
-
 impl NodeRow {
     // What stands where there is no row: zeros.
     pub fn none() -> Self
         ensures { result ≡ no_node_row }
     {
-        let entry = NodeEntry {
-            address: LogicalNodeAddress(0),
-            status: NodeStatus(WAITING),
-            bad: 0,
-            silences: 0,
-            place: 0,
-            tries: 0,
-            count: 0,
-            blocks: [0u8; MAX_PAIRS],
-            numbers: [0u8; MAX_PAIRS],
-        };
         NodeRow {
             position: NodePosition(0),
-            entry,
+            entry: NodeEntry {
+                address: LogicalNodeAddress(0),
+                status: NodeStatus(WAITING),
+                bad: 0,
+                silences: 0,
+                place: 0,
+                tries: 0,
+                count: 0,
+                blocks: [0u8; MAX_PAIRS],
+                numbers: [0u8; MAX_PAIRS],
+            },
         }
     }
 
     // The row of an entry at a position; it counts no more pairs than the entry has places for.
-    pub fn of(position: NodePosition, mut entry: NodeEntry) -> Self
+    pub fn of(position: NodePosition, entry: NodeEntry) -> Self
         ensures { (result ≡ node_row position.0 entry) × (node_row_of result ≡ held_row position.0 entry) }
     {
-        entry.count = held(entry.count);
-        NodeRow { position, entry }
+        NodeRow {
+            position,
+            entry: NodeEntry {
+                count: entry.count.min(MAX_PAIRS as u8),
+                ..entry
+            },
+        }
     }
 
     // The pairs of the row, whatever its marks are.
-    pub fn pairs(self) -> Pairs
-        ensures { pairs_of result ≡ held_pairs self.entry }
+    pub fn pairs(&self) -> Pairs
+        ensures { pairs_of result ≡ held_pairs self.now.entry }
     {
-        let entry = self.entry;
-        let blocks = entry.blocks;
-        let numbers = entry.numbers;
         Pairs {
-            count: entry.count as usize,
-            blocks,
-            numbers,
+            count: usize::from(self.entry.count),
+            blocks: self.entry.blocks,
+            numbers: self.entry.numbers,
         }
     }
 }

@@ -12,5 +12,5 @@ unfolding node_row with_count
 returns c =
     let a = c.args in
     let counting : ℕ → NodeRow = λ n. record { position = a.position; entry = with_count n a.entry } in
-    let e = ap counting c.held.ensures in
+    let e = ap counting c.min.ensures in
     (e, ap node_row_of e ∙ row_held a.position.0 a.entry (search rules) (search rules))

@@ -1,9 +1,10 @@
 -- The arrays as they are.
-use mathlib.Core.Path.{refl}
-use Rattle.wire_pairs.specs.View.{pairs_of}
+use Prim.Native.Nat.{ℕ}
+use mathlib.Core.Path.{ap}
+use Rattle.wire_pairs.specs.View.{pairs_from, pairs_of}
 use Rattle.row_node.specs.View.{held_pairs}
 use Rattle.row_node.proofs.NodeRow.pairs.Goals as goal
 
 pub returns : goal.returns
 unfolding pairs_of held_pairs
-returns c = refl
+returns c = ap (λ (k : ℕ). pairs_from k c.args.self.now.entry.blocks c.args.self.now.entry.numbers) c.from.ensures

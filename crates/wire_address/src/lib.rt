@@ -1,7 +1,7 @@
 // Where a node sits, and what it announces: two types, so that neither stands in for the other.
 #![tactic(auto)]
 
-ghost use Rattle.std.specs.Prelude.{◌≡◌, eqb};
+ghost use Rattle.std.specs.Prelude.{◌≡◌};
 ghost use Rattle.rules.specs.Picture.{in_range};
 
 // A node position: where a unit sits in the ring.
@@ -25,12 +25,5 @@ impl LogicalNodeAddress {
         ensures { result ≡ in_range self.0 }
     {
         NODE_ADDRESS_MIN <= self.0 && self.0 <= NODE_ADDRESS_MAX
-    }
-
-    // The two are one address.
-    pub fn same(self, other: LogicalNodeAddress) -> bool
-        ensures { result ≡ eqb self.0 other.0 }
-    {
-        self.0 == other.0
     }
 }

@@ -1,13 +1,11 @@
 // Pairs of block and number (FBlockID, InstID), as many as a node keeps or announces.
 #![tactic(auto)]
 
-pub mod bools; // bools.rt: tests put together
-
-ghost use Rattle.std.specs.Prelude.{◌≡◌, cond, [], ◌∷◌, ◌++◌, ◌+◌, ◌<◌, ◌≤◌, min, length, take, drop};
+ghost use Rattle.std.specs.Prelude.{◌≡◌, [], ◌∷◌, ◌++◌, ◌+◌, ◌<◌, ◌≤◌, min, length, take, drop};
 ghost use Rattle.rules.specs.House.{max_pairs};
-ghost use Rattle.rules.specs.Picture.{same_pair, holds};
+ghost use Rattle.rules.specs.Picture.{holds};
 ghost use Rattle.rules.specs.Ending.{missing};
-ghost use Rattle.wire_pairs.specs.View.{pair_of, pair_in, pairs_of};
+ghost use Rattle.wire_pairs.specs.View.{pair_in, pairs_of};
 
 use sizes::MAX_PAIRS;
 
@@ -29,23 +27,6 @@ pub struct Pairs {
     pub count: usize,
     pub blocks: [u8; MAX_PAIRS],
     pub numbers: [u8; MAX_PAIRS],
-}
-
-// The two pairs are one.
-pub fn same(block: u8, number: u8, other_block: u8, other_number: u8) -> bool
-    ensures { result ≡ same_pair (pair_of block number) (pair_of other_block other_number) }
-{
-    block == other_block && number == other_number
-}
-
-// By how many pairs a list grows: by one where the pair is kept.
-pub fn one_if(kept: bool) -> usize
-    ensures { (result ≡ cond kept 1 0) × (result ≤ 1) }
-{
-    if kept {
-        return 1;
-    }
-    0
 }
 
 impl Pairs {

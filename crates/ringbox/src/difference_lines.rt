@@ -56,7 +56,7 @@ fn lines(output: &mut Output, bytes: &[u8]) {
 // The differences from the first list to the second, written into the lent room, or the refusal.
 pub(crate) fn compare(output: &mut Output, lists: &Lists, lent: &mut [u8]) {
     output.form(b"compare %d\n", &[lent.len()]);
-    let outcome = diff_lines::differences(lent, lists.first.rows, lists.second.rows);
+    let outcome = diff_lines::differences(lent, &lists.first.rows, &lists.second.rows);
     if outcome.number != DONE {
         return text_answers::refusal(output, Asked::Compare, outcome.number);
     }

@@ -5,7 +5,7 @@ use diff_rows::Rows;
 use registry::image::RegistryImage;
 use row_entry::NodeEntry;
 use row_node::NodeRow;
-use sizes::{MAX_PAIRS, MAX_UNITS};
+use sizes::MAX_UNITS;
 use text_arguments::Reason;
 use text_lists::MAX_PAIR_WORDS;
 use text_out::Output;
@@ -49,7 +49,7 @@ impl RowList {
         if MAX_ROWS <= self.count {
             return Err(Reason::TooMany);
         }
-        self.rows = self.rows.with(row);
+        self.rows.push(row);
         self.count += 1;
         Ok(())
     }

@@ -21,7 +21,7 @@ use text_in::Input;
 use text_numbers::Asked;
 use text_out::Output;
 use text_records::Layout;
-use wire_pairs::PAIR;
+use wire_pairs::{PAIR, Pair};
 
 // L of the picture at the start.
 const FIRST_SIZE: usize = 12;
@@ -44,11 +44,9 @@ fn fresh(picture: &mut RegistryImage, output: &mut Output, l: usize)
     output.form(b"fresh %d\n", &[l]);
     let made = RegistryImage::fresh(l);
     *picture = made.picture;
-    let number = made.answer.number();
-    if number == DONE {
-        output.form(b"= fresh %d\n", &[l]);
-    } else {
-        text_answers::refusal(output, Asked::Picture, number);
+    match made.answer {
+        Ok(()) => output.form(b"= fresh %d\n", &[l]),
+        Err(refusal) => text_answers::refusal(output, Asked::Picture, refusal.number()),
     }
 }
 
@@ -83,7 +81,7 @@ fn look_up(picture: &RegistryImage, output: &mut Output, block: u8, number: u8) 
         b"lookup %b %b\n",
         &[usize::from(block), usize::from(number)],
     );
-    show::found(output, picture.look_up(block, number));
+    show::found(output, picture.look_up(Pair { block, number }));
 }
 
 impl Bench for RingBox {

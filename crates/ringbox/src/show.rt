@@ -1,7 +1,7 @@
 // What a picture shows: state, listing, rows, and where a pair is listed.
-use numbers::DONE;
+use numbers::Refusal;
 use registry::image::RegistryImage;
-use ring_lookup::Lookup;
+use ring_lookup::Place;
 use ring_state::{OFF, OK};
 use row_entry::{IGNORED, LISTED, NodeEntry, SETTING, SILENT};
 use sizes::MAX_LISTED;
@@ -52,13 +52,13 @@ pub(crate) fn listing(output: &mut Output, picture: &RegistryImage) {
 }
 
 // Where a pair is listed, or the refusal.
-pub(crate) fn found(output: &mut Output, found: Lookup) {
+pub(crate) fn found(output: &mut Output, found: Result<Place, Refusal>) {
     match found {
-        Lookup::Refused(number) => text_answers::refusal(output, Asked::LookUp, number),
-        Lookup::Found { position, address } => output.form(
+        Ok(place) => output.form(
             b"= at %d %w\n",
-            &[usize::from(position.0), usize::from(address.0)],
+            &[usize::from(place.position.0), usize::from(place.address.0)],
         ),
+        Err(refusal) => text_answers::refusal(output, Asked::LookUp, refusal.number()),
     }
 }
 
@@ -81,10 +81,10 @@ fn row(output: &mut Output, position: NodePosition, entry: &NodeEntry) {
         b" bad %d silent %d",
         &[usize::from(entry.bad), usize::from(entry.silences)],
     );
-    // C interface: blocks and numbers stand in arrays of their own.
     let pairs = entry.pairs();
     for i in 0..pairs.len() {
-        text_records::pair(output, pairs.blocks[i], pairs.numbers[i]);
+        let pair = pairs.at(i);
+        text_records::pair(output, pair.block, pair.number);
     }
     output.line_end();
 }

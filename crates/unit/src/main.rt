@@ -7,7 +7,7 @@ mod show;
 
 use command::{Command, MAX_ORDER, MAX_ROOM};
 use numbers::DONE;
-use ring_lookup::Lookup;
+use ring_lookup::Place;
 use sizes::MIN_ANSWER_ROOM;
 use std::rt::Env;
 use text_arguments::Reason;
@@ -18,7 +18,7 @@ use text_out::Output;
 use text_records::Layout;
 use unit_slave::NetworkSlave;
 use wire_address::{LogicalNodeAddress, NodePosition};
-use wire_pairs::PAIR;
+use wire_pairs::{PAIR, Pair};
 
 // The unit at the start: where it sits, and its address.
 const FIRST_POSITION: u8 = 1;
@@ -89,11 +89,11 @@ fn found(unit: &mut NetworkSlave, output: &mut Output, block: u8, number: u8, ad
             usize::from(address),
         ],
     );
-    let answer = Lookup::Found {
+    let place = Place {
         position: NodePosition(0),
         address: LogicalNodeAddress(address),
     };
-    *unit = unit.learn(block, number, answer);
+    *unit = unit.learn(Pair { block, number }, Ok(place));
 }
 
 impl Bench for UnitBench {

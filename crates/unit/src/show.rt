@@ -21,11 +21,11 @@ pub(crate) fn myself(output: &mut Output, unit: &NetworkSlave) {
 pub(crate) fn list(output: &mut Output, pairs: &Pairs) {
     output.line(b"list");
     output.form(b"= list %d\n", &[pairs.len()]);
-    // C interface: blocks and numbers stand in arrays of their own.
     for i in 0..pairs.len() {
+        let pair = pairs.at(i);
         output.form(
             b"= %b %b\n",
-            &[usize::from(pairs.blocks[i]), usize::from(pairs.numbers[i])],
+            &[usize::from(pair.block), usize::from(pair.number)],
         );
     }
 }

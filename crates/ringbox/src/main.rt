@@ -50,22 +50,12 @@ fn fresh(picture: &mut RegistryImage, output: &mut Output, l: usize)
     }
 }
 
-// A record in its normal form.
-fn echo(output: &mut Output, record: &[u8]) {
-    output.byte(b'>');
-    if !record.is_empty() {
-        output.byte(b' ');
-        text_records::spaced(output, Layout::Event, record);
-    }
-    output.line_end();
-}
-
 // Offers a record with so much order room: a refusal, or that it is taken, and its orders.
 fn offer(picture: &mut RegistryImage, output: &mut Output, record: &[u8], lent: &mut [u8])
     requires { HandedOut picture.old }
     ensures { HandedOut picture.new }
 {
-    echo(output, record);
+    text_records::marked(output, b'>', Layout::Event, record);
     let recorded = picture.record(record, lent);
     *picture = recorded.picture;
     if recorded.number != DONE {
@@ -85,7 +75,7 @@ fn look_up(picture: &RegistryImage, output: &mut Output, block: u8, number: u8) 
 }
 
 impl Bench for RingBox {
-    // The picture is fresh, or it was handed back for a record.
+    // The picture is fresh, or it was handed back for a record. This is no ghost field, which has to have one proof at most.
     ghost holds = { λ bench. HandedOut bench.picture };
 
     fn start() -> Self {

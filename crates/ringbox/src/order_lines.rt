@@ -49,7 +49,7 @@ fn in_words(output: &mut Output, bytes: &[u8]) {
     }
 }
 
-// A line for each of the orders.
+// A line for each of the orders, of which each says how long it is: no iterator parts them.
 pub(crate) fn lines(output: &mut Output, orders: &[u8]) {
     let mut rest = orders;
     while !rest.is_empty() {

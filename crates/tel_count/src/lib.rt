@@ -13,10 +13,7 @@ fn count_of(l: usize, n: usize) -> usize
     requires { (min_size ≤ l) × (n ≤ max_payload) }
     ensures { result ≡ count_of l n }
 {
-    if n <= l {
-        return 1;
-    }
-    (n + (l - 2)) / (l - 1)
+    if n <= l { 1 } else { n.div_ceil(l - 1) }
 }
 
 // How many telegrams a message has, or 10 or 11.

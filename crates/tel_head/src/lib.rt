@@ -1,4 +1,4 @@
-// What telegrams are there for, and the bytes of one: its head written and read, and its part of the message copied.
+// For which L and messages there are telegrams, and the bytes of one: its head written and read, and its part of the message copied.
 #![tactic(auto)]
 
 ghost use Rattle.std.specs.Prelude.{◌≡◌, ◌++◌, ◌+◌, ◌*◌, ◌/◌, ◌≤◌, ◌<◌, length, get_or, take, drop};

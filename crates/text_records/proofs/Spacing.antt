@@ -2,15 +2,19 @@
 use Prim.Native.Nat.{ℕ, ◌+◌, ◌≤◌, ◌<◌}
 use mathlib.Core.Path.{◌≡◌, refl, sym, ◌∙◌, ap}
 use mathlib.Core.Bool.{Bool, true, false}
-use mathlib.Core.List.{List, [], ◌++◌}
+use mathlib.Core.List.{List, [], ◌∷◌, ◌++◌}
 use native.Mathlib.Numerals.{add-one}
 use native.Mathlib.Omega.{arith}
 use mir.Val.{bool_byte}
 use Rattle.std.proofs.Common.{lit≤}
 use lib.ListN.{length, drop, get_or, length-append, drop_of_length-le}
 use Rattle.laws.specs.Runs.{drop_here}
-use Rattle.text_out.specs.Spelling.{hex_of}
-use Rattle.text_records.specs.Fields.{spaced_byte, spaced_from}
+use Rattle.std.specs.Bool.{◌==◌}
+use Rattle.std.proofs.lemmas.Bool.{eqb-true}
+use Rattle.laws.specs.Bools.{clash}
+use Rattle.text_out.specs.Spelling.{hex_of, lined}
+use Rattle.text_records.specs.declared.Layout.{Layout}
+use Rattle.text_records.specs.Fields.{spaced_byte, spaced_from, spaced_of, marked_of}
 
 -- two digits, and one more character where a blank stands
 byte_width : (blank : Bool) (b : ℕ) → length (spaced_byte blank b) ≡ 2 + bool_byte blank
@@ -41,3 +45,16 @@ module _ (gap : ℕ → Bool) (bytes : List ℕ) (i : ℕ) where
   pub spaced_end : length bytes ≤ i → spaced_from gap i (drop i bytes) ≡ []
   unfolding spaced_from
   spaced_end h = ap (spaced_from gap i) (drop_of_length-le bytes h)
+
+-- a mark, with bytes behind it or not
+module _ (mark : ℕ) (layout : Layout) where
+  pub marked_none : (bytes : List ℕ) {b : Bool} → b ≡ (length bytes == 0) → b ≡ true → lined (mark ∷ []) ≡ marked_of mark layout bytes
+  unfolding marked_of
+  marked_none [] e h = refl
+  marked_none (x ∷ bytes) e h = absurd (omega (arith, eqb-true (length (x ∷ bytes)) 0 (sym e ∙ h)))
+
+  pub marked_some : (bytes : List ℕ) {b : Bool} → b ≡ (length bytes == 0) → b ≡ false
+      → lined (mark ∷ 32 ∷ spaced_of layout bytes) ≡ marked_of mark layout bytes
+  unfolding marked_of
+  marked_some [] e h = clash e h
+  marked_some (x ∷ bytes) e h = refl

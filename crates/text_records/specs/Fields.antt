@@ -2,7 +2,7 @@
 use Rattle.std.specs.Prelude.{ℕ, suc, ◌%◌, Bool, true, false, cond, ◌&&◌, ◌||◌, List, [], ◌∷◌, ◌++◌, eqb, leb, ltb, get_or}
 use Prim.Native.Char.{code}
 use Rattle.text_words.specs.Text.{within}
-use Rattle.text_out.specs.Spelling.{hex_of}
+use Rattle.text_out.specs.Spelling.{hex_of, lined}
 use Rattle.text_records.specs.declared.Layout.{Layout}
 use Rattle.text_records.specs.declared.Layout.TheVariants.{Event, Order}
 
@@ -66,6 +66,11 @@ spaced_from gap n (b ∷ bs) = spaced_byte (gap n) b ++ spaced_from gap (suc n) 
 -- the bytes of an order, or of an event; the third is its kind, and 0 where there is none
 unfoldable pub spaced_of : Layout → List ℕ → List ℕ
 spaced_of layout bytes = spaced_from (gap_of layout (get_or bytes 2 0)) 0 bytes
+
+-- a mark, and the bytes behind a blank, on a line; the mark alone where there are none
+unfoldable pub marked_of : ℕ → Layout → List ℕ → List ℕ
+marked_of mark layout [] = lined (mark ∷ [])
+marked_of mark layout (b ∷ bytes) = lined (mark ∷ code " " ∷ spaced_of layout (b ∷ bytes))
 
 -- a pair behind a blank, as 22.01
 unfoldable pub pair_word : (block number : ℕ) → List ℕ

@@ -4,7 +4,7 @@
 ghost use Rattle.std.specs.Prelude.{◌≡◌, ◌-◌, ltb, length, get_or};
 ghost use Rattle.text_in.specs.Lines.{max_line};
 ghost use Rattle.text_out.specs.Puts.{Puts};
-ghost use Rattle.text_records.specs.Fields.{head_gap, answer_gap, event_gap, is_known, field_gap, order_gap, gap_of, spaced_byte, spaced_of, pair_word, pair_words};
+ghost use Rattle.text_records.specs.Fields.{head_gap, answer_gap, event_gap, is_known, field_gap, order_gap, gap_of, spaced_byte, spaced_of, marked_of, pair_word, pair_words};
 
 use text_in::MAX_LINE;
 use text_out::Output;
@@ -114,6 +114,19 @@ pub fn spaced(output: &mut Output, layout: Layout, bytes: &[u8])
     for (i, byte) in bytes.iter().enumerate() {
         spaced_byte(output, layout.has_gap(kind, i), *byte);
     }
+}
+
+// A mark, and bytes with a blank between their fields behind it, on a line.
+pub fn marked(output: &mut Output, mark: u8, layout: Layout, bytes: &[u8])
+    ensures { Puts output.old (marked_of mark layout bytes.now) output.new }
+{
+    output.byte(mark);
+    if bytes.is_empty() {
+        return output.line_end();
+    }
+    output.byte(b' ');
+    spaced(output, layout, bytes);
+    output.line_end();
 }
 
 // With a mark and a blank in front, the bytes with a blank between their fields are longer than a line.

@@ -50,19 +50,9 @@ fn make(output: &mut Output, position: u8, address: u16, pairs: &[u8]) -> Networ
     made.unit
 }
 
-// A mark, and the bytes of an order or a record behind it.
-fn marked(output: &mut Output, mark: u8, layout: Layout, bytes: &[u8]) {
-    output.byte(mark);
-    if !bytes.is_empty() {
-        output.byte(b' ');
-        text_records::spaced(output, layout, bytes);
-    }
-    output.line_end();
-}
-
 // Offers an order with so much room: a refusal, or that it is read, and the answer.
 fn offer(unit: &mut NetworkSlave, output: &mut Output, order: &[u8], out: &mut [u8]) {
-    marked(output, b'<', Layout::Order, order);
+    text_records::marked(output, b'<', Layout::Order, order);
     let read = unit.read(order, out);
     *unit = read.unit;
     if read.number != DONE {
@@ -70,7 +60,7 @@ fn offer(unit: &mut NetworkSlave, output: &mut Output, order: &[u8], out: &mut [
     }
     output.line(b"= read");
     if read.length != 0 {
-        marked(
+        text_records::marked(
             output,
             b'>',
             Layout::Event,

@@ -2,20 +2,23 @@
 use Prim.Native.Nat.{ℕ, zero, suc, ◌<◌, ◌≤◌}
 use mathlib.Core.Path.{◌≡◌, refl, sym, ◌∙◌, ap}
 use mathlib.Core.Bool.{Bool, true, false, cond, ◌&&◌}
-use mathlib.Core.List.{List, [], ◌∷◌}
+use mathlib.Core.List.{List, [], ◌∷◌, map}
 use mathlib.Core.Option.{Option}
 use native.Mathlib.Nat.{suc-ne-zero}
 use native.Mathlib.Omega.{arith}
 use borrow.Author.Tests.{eqb-true}
 use lib.Dec.{eqb, ltb}
-use lib.ListN.{length, drop}
+use lib.ListN.{length, get_or, drop}
 use Rattle.laws.specs.Lists.{any, collect}
 use Rattle.laws.specs.Bools.{clash}
 use Rattle.rules.specs.House.{max_tries, max_pairs}
 use Rattle.rules.specs.Picture.{Picture, Pair, Row, no_row, kept_by, has_address, keeps, keeps_other, bars, bars_status, in_range, pairs_in, Seat, seat_at, others}
+use Rattle.rules.specs.Picture as rules
 use Rattle.rules.specs.Renumber.{Judged, goods, free_number, Renumbering, finished, offer, renumber_from, renumber, place_of, tries_of}
 use Rattle.rules.specs.Step.{change, change_rows, set_order, Verdict, barred, outside, duplicate, changed, fine, first_that_applies, verdict, answer, conflict, judged_for, renumbering_for, listed_row, status_after, keep_answer}
+use Rattle.row_entry.specs.declared.NodeEntry.{NodeEntry}
 use Rattle.row_entry.specs.View.{row_of}
+use Rattle.std.proofs.lemmas.List.{length-map}
 use Rattle.ring_entries.specs.Verdicts.{verdict_of, is_conflict, counts_for}
 use Rattle.row_judge.specs.Marks.{judge_marked, judged_of}
 use Rattle.row_judge.proofs.Judging.{judge_marked_lem, judged_few}
@@ -23,7 +26,7 @@ use Rattle.row_renumber.specs.Marks.{renumbering_of}
 use Rattle.ring_answer.specs.declared.hear.Heard.{Heard}
 use Rattle.ring_answer.specs.Beside.{beside, held_by}
 use Rattle.ring_answer.specs.Hearing.{reply_change, renumbering_by, verdict_for, answered, row_after, step_after, Hears}
-use Rattle.ring_entries.proofs.Seats.{seat_any}
+use Rattle.ring_entries.proofs.Seats.{seat_any, seat_own, seat_pairs}
 
 -- what stands for no position bars nothing
 none_bars : (a : ℕ) → bars a no_row ≡ false
@@ -64,13 +67,24 @@ module _ {s : Seat} {a : ℕ} {ps : List Pair} {h : Heard} (k : Hears s a ps h) 
       ∙ (λ t. change (reply_change s x a (sym k.row t) (sym k.step t) p))
 
 -- the verdict from the claims of the others
-pub verdict_at : (rs : List Row) (i : ℕ) → i < length rs → (a : ℕ) {bar keep : Bool} → bar ≡ any (bars a) (beside i rs) → keep ≡ any (keeps a) (beside i rs)
+verdict_at : (rs : List Row) (i : ℕ) → i < length rs → (a : ℕ) {bar keep : Bool} → bar ≡ any (bars a) (beside i rs) → keep ≡ any (keeps a) (beside i rs)
     → {own : Row} → own ≡ (seat_at rs (suc i)).row → {v : Verdict} → v ≡ first_that_applies bar (in_range a) keep (keeps_other a own) → v ≡ verdict_for (seat_at rs (suc i)) a
 unfolding verdict keeps has_address kept_by no_row
 verdict_at rs i l a b k o e =
     let bar = b ∙ sym (seat_any rs i refl l (bars a) no_row (none_bars a)) in
     let keep = k ∙ sym (seat_any rs i refl l (keeps a) no_row refl) in
     e ∙ (λ t. first_that_applies (bar t) (in_range a) (keep t) (keeps_other a (o t)))
+
+-- the entries beside one: the pairs that they keep are those of the others, and what they say of an address decides
+module _ (es : List NodeEntry) (i : ℕ) (l : i < length es) {rs : List Row} (e : rs ≡ beside i (map row_of es)) where
+  pub pairs_elsewhere : collect pairs_in rs ≡ collect pairs_in (others (seat_at (map row_of es) (suc i)))
+  unfolding pairs_in no_row rules.pairs_of kept_by
+  pairs_elsewhere = ap (collect pairs_in) e ∙ sym (seat_pairs (map row_of es) i refl (omega (arith, l, length-map es row_of)) no_row refl)
+
+  pub verdict_found : (d : NodeEntry) (a : ℕ) {bar keep : Bool} → bar ≡ any (bars a) rs → keep ≡ any (keeps a) rs → {v : Verdict}
+      → v ≡ first_that_applies bar (in_range a) keep (keeps_other a (row_of (get_or es i d))) → v ≡ verdict_for (seat_at (map row_of es) (suc i)) a
+  verdict_found d a b k =
+      verdict_at (map row_of es) i (omega (arith, l, length-map es row_of)) a (b ∙ ap (any (bars a)) e) (k ∙ ap (any (keeps a)) e) (seat_own i es l d)
 
 -- what is heard, from the verdict
 pub hears : {s : Seat} {a : ℕ} {ps : List Pair} {h : Heard} {v : Verdict} → verdict_of h.verdict ≡ v → v ≡ verdict_for s a

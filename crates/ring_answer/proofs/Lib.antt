@@ -1,3 +1,3 @@
 -- Laws that several functions' proofs use.
-pub mod Walking
 pub mod Hearing
+pub mod Walking

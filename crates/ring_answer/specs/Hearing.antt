@@ -2,14 +2,12 @@
 use Rattle.std.specs.Prelude.{ℕ, ◌≡◌, List, []}
 use Rattle.laws.specs.Lists.{collect}
 use Rattle.rules.specs.Picture.{Pair, Row, Picture, with_rows, pairs_in, Seat, others, put}
-use Rattle.rules.specs.Renumber.{Judged, goods, Renumbering, finished, free_number, renumber, place_of, tries_of}
-use Rattle.rules.specs.Step.{rows_separately, Change, Response, set_order, Verdict, barred, outside, duplicate, changed, fine, verdict, ignored, answer, judged_for, renumbering_for, listed_row}
-use Rattle.wire_pairs.specs.View.{pairs_of}
+use Rattle.rules.specs.Renumber.{Judged, Renumbering, finished, free_number, renumber, place_of, tries_of}
+use Rattle.rules.specs.Step.{rows_separately, Change, Response, set_order, Verdict, barred, outside, duplicate, changed, fine, verdict, ignored, answer, renumbering_for, listed_row}
 use Rattle.row_entry.specs.View.{row_of}
 use Rattle.row_renumber.specs.Marks.{renumbering_of}
 use Rattle.ring_entries.specs.Verdicts.{verdict_of}
 use Rattle.ring_answer.specs.declared.hear.Heard.{Heard}
-use Rattle.ring_answer.specs.declared.hear.Kept.{Kept}
 
 -- the row in the seat becomes r, and n is sent to position x at address a
 abbrev pub reply_change : Seat → (x a : ℕ) → Row → Renumbering → Picture → Change
@@ -18,11 +16,6 @@ reply_change s x a r n p = record { picture = with_rows (put s r) p; first = [];
 -- the rules' renumbering, from judged pairs
 abbrev pub renumbering_by : Seat → List Pair → List Judged → Renumbering
 renumbering_by s ps js = renumber (free_number (collect pairs_in (others s)) ps) (place_of s.row.status) (tries_of s.row.status) js
-
--- what is kept of the announced pairs ps, and what is renumbered
-pub record Keeps (s : Seat) (ps : List Pair) (k : Kept) : Type 0 where
-  pub pairs : pairs_of k.pairs ≡ goods (judged_for s ps)
-  pub step : renumbering_of k.step ≡ renumbering_for s ps
 
 -- the verdict on address a where the row in the seat announces it
 abbrev pub verdict_for : Seat → ℕ → Verdict

@@ -1,14 +1,13 @@
-// One walk over the ring beside a node: who claims its address, and which of its pairs are held.
-ghost use Rattle.std.specs.Prelude.{◌≡◌, cond, eqb};
-ghost use Rattle.rules.specs.Picture.{no_row};
+// One walk over the entries beside a node: who claims its address, and which of its pairs are held.
+ghost use Rattle.std.specs.Prelude.{◌≡◌, map};
 ghost use Rattle.wire_pairs.specs.View.{pairs_of};
-ghost use Rattle.row_entry.specs.View.{row_of, rows_of};
-ghost use Rattle.ring_answer.specs.Beside.{beside, Surveys};
+ghost use Rattle.row_entry.specs.View.{row_of};
+ghost use Rattle.ring_answer.specs.Beside.{Surveys};
 
 use ring_entries::claims::Claims;
 use row_entry::NodeEntry;
 use row_judge::held;
-use sizes::{MAX_PAIRS, MAX_UNITS};
+use sizes::MAX_PAIRS;
 use wire_address::LogicalNodeAddress;
 use wire_pairs::Pairs;
 
@@ -19,42 +18,18 @@ pub struct Survey {
     pub held: [bool; MAX_PAIRS],
 }
 
-// The entry at place i, or what stands for no position in the seat.
-fn seen_at(entry: NodeEntry, i: usize, seat: usize) -> NodeEntry
-    ensures { row_of result ≡ cond (eqb i seat) no_row (row_of entry) }
+// What these entries say of an announcement.
+pub fn survey_of(others: &[NodeEntry], address: LogicalNodeAddress, announced: &Pairs) -> Survey
+    ensures { Surveys (map row_of others.now) address.0 (pairs_of announced.now) result }
 {
-    if i == seat {
-        return NodeEntry::absent();
-    }
-    entry
-}
-
-// What the first `count` entries but the one in the seat say of an announcement.
-pub fn survey_of(
-    count: usize,
-    entries: [NodeEntry; MAX_UNITS],
-    seat: usize,
-    address: LogicalNodeAddress,
-    announced: Pairs,
-) -> Survey
-    ensures { Surveys (beside seat (rows_of count entries)) address.0 (pairs_of announced) result }
-{
-    let n = row_entry::clamp(count);
     let mut claims = Claims {
         barred: false,
         kept: false,
     };
-    let mut marks = [false; MAX_PAIRS];
-    let mut i = 0;
-    while i < n {
-        let other = seen_at(entries[i], i, seat);
-        let next = claims.with(other, address);
-        claims = next;
-        held::mark_held(&mut marks, &other.pairs(), &announced);
-        i += 1;
+    let mut held = [false; MAX_PAIRS];
+    for other in others {
+        claims = claims.with(other, address);
+        held::mark_held(&mut held, &other.pairs(), announced);
     }
-    Survey {
-        claims,
-        held: marks,
-    }
+    Survey { claims, held }
 }

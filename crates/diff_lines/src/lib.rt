@@ -29,7 +29,7 @@ fn count_lines(before: &[Option<NodeRow>], after: &[Option<NodeRow>]) -> usize
 {
     let mut n = 0;
     for (first, second) in before.iter().zip(after) {
-        n += diff_changes::count(first, second);
+        n += diff_changes::count(*first, *second);
     }
     n
 }
@@ -42,7 +42,7 @@ fn write_lines(out: &mut [u8], before: &[Option<NodeRow>], after: &[Option<NodeR
     let mut end = 0;
     for (i, (first, second)) in before.iter().zip(after).enumerate() {
         let position = NodePosition(i as u8 + 1);
-        end = diff_position::write_position(out, end, position, first, second);
+        end = diff_position::write_position(out, end, position, *first, *second);
     }
     end
 }

@@ -126,7 +126,8 @@ impl NetworkSlave {
         unit_renumber::renumber(&mut self.pairs, block, old, new);
     }
 
-    // The ANSWER, at the start of `out`; how many bytes it has is handed back.
+    // The ANSWER, at the start of `out`; how many bytes it has is handed back. By value: behind a reference the proof does not know how
+    // long the arrays of the pairs are.
     fn answer(self, out: &mut [u8]) -> usize
         requires { min_answer_room ≤ length out.old }
         ensures { Wrote out.old 0 (answer_of self.pass (slave_of self)) result out.new }

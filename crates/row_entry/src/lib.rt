@@ -44,6 +44,7 @@ pub const MAX_SILENCES: u8 = 20;
 
 // The paper's row: a node's address, its marks, and its pairs. Address and pairs count while the node is SETTING or LISTED, the
 // address alone while it is IGNORED, place and tries while it is SETTING.
+// C interface: fields that count by the status, in place of an enum, and a count beside two arrays.
 #[repr(C)]
 #[derive(Clone, Copy)]
 pub struct NodeEntry {

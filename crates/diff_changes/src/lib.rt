@@ -50,8 +50,8 @@ impl LineKind {
 
 // The pairs in a seat: none where there is no row.
 #[tactic(auto, unfolding(diff_rows::specs::Gathering::seen_in, crate::specs::Changes::seen_pairs))]
-fn seen_pairs(seat: &Option<NodeRow>) -> Pairs
-    ensures { pairs_of result ≡ seen_pairs (seen_in seat.now) }
+fn seen_pairs(seat: Option<NodeRow>) -> Pairs
+    ensures { pairs_of result ≡ seen_pairs (seen_in seat) }
 {
     match seat {
         Some(row) => row.pairs(),
@@ -61,8 +61,8 @@ fn seen_pairs(seat: &Option<NodeRow>) -> Pairs
 
 // The address in a seat; 0 where there is no row.
 #[tactic(auto, unfolding(diff_rows::specs::Gathering::seen_in, crate::specs::Changes::seen_address))]
-pub fn seen_address(seat: &Option<NodeRow>) -> LogicalNodeAddress
-    ensures { result.0 ≡ seen_address (seen_in seat.now) }
+pub fn seen_address(seat: Option<NodeRow>) -> LogicalNodeAddress
+    ensures { result.0 ≡ seen_address (seen_in seat) }
 {
     match seat {
         Some(row) => row.entry.address,
@@ -72,8 +72,8 @@ pub fn seen_address(seat: &Option<NodeRow>) -> LogicalNodeAddress
 
 // What is told of the position itself: the kind of its line, if it has one.
 #[tactic(auto, unfolding(diff_rows::specs::Gathering::seen_in, crate::specs::Changes::head_kind))]
-pub fn head_kind(before: &Option<NodeRow>, after: &Option<NodeRow>) -> Option<LineKind>
-    ensures { told result ≡ head_kind (seen_in before.now) (seen_in after.now) }
+pub fn head_kind(before: Option<NodeRow>, after: Option<NodeRow>) -> Option<LineKind>
+    ensures { told result ≡ head_kind (seen_in before) (seen_in after) }
 {
     match (before, after) {
         (Some(stood), Some(stands)) if stood.entry.address == stands.entry.address => None,
@@ -86,8 +86,8 @@ pub fn head_kind(before: &Option<NodeRow>, after: &Option<NodeRow>) -> Option<Li
 
 // The pairs that are told as gone: none of a position that is gone itself.
 #[tactic(auto, unfolding(diff_rows::specs::Gathering::seen_in, crate::specs::Changes::gone_in))]
-pub fn gone(before: &Option<NodeRow>, after: &Option<NodeRow>) -> Pairs
-    ensures { pairs_of result ≡ gone_in (seen_in before.now) (seen_in after.now) }
+pub fn gone(before: Option<NodeRow>, after: Option<NodeRow>) -> Pairs
+    ensures { pairs_of result ≡ gone_in (seen_in before) (seen_in after) }
 {
     match after {
         Some(row) => seen_pairs(before).missing(&row.pairs()),
@@ -97,15 +97,15 @@ pub fn gone(before: &Option<NodeRow>, after: &Option<NodeRow>) -> Pairs
 
 // The pairs that are told as new.
 #[tactic(auto, unfolding(crate::specs::Changes::new_in))]
-pub fn new(before: &Option<NodeRow>, after: &Option<NodeRow>) -> Pairs
-    ensures { pairs_of result ≡ new_in (seen_in before.now) (seen_in after.now) }
+pub fn new(before: Option<NodeRow>, after: Option<NodeRow>) -> Pairs
+    ensures { pairs_of result ≡ new_in (seen_in before) (seen_in after) }
 {
     seen_pairs(after).missing(&seen_pairs(before))
 }
 
 // How many lines the position has.
-pub fn count(before: &Option<NodeRow>, after: &Option<NodeRow>) -> usize
-    ensures { (result ≡ length (lines_at 0 (seen_in before.now) (seen_in after.now))) × (result ≤ max_lines_each) }
+pub fn count(before: Option<NodeRow>, after: Option<NodeRow>) -> usize
+    ensures { (result ≡ length (lines_at 0 (seen_in before) (seen_in after))) × (result ≤ max_lines_each) }
 {
     let own = usize::from(head_kind(before, after).is_some());
     own + gone(before, after).len() + new(before, after).len()

@@ -15,6 +15,7 @@ use sizes::LINE_SIZE;
 use wire_address::NodePosition;
 
 // The number of a refusal or 0, and how many bytes of lines are written.
+// C interface: a number beside a length.
 #[repr(C)]
 #[derive(Clone, Copy)]
 pub struct CompareOutcome {
@@ -29,7 +30,7 @@ fn count_lines(before: &[Option<NodeRow>], after: &[Option<NodeRow>]) -> usize
 {
     let mut n = 0;
     for (first, second) in before.iter().zip(after) {
-        n += diff_changes::count(first, second);
+        n += diff_changes::count(*first, *second);
     }
     n
 }
@@ -42,7 +43,7 @@ fn write_lines(out: &mut [u8], before: &[Option<NodeRow>], after: &[Option<NodeR
     let mut end = 0;
     for (i, (first, second)) in before.iter().zip(after).enumerate() {
         let position = NodePosition(i as u8 + 1);
-        end = diff_position::write_position(out, end, position, first, second);
+        end = diff_position::write_position(out, end, position, *first, *second);
     }
     end
 }

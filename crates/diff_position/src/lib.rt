@@ -107,11 +107,11 @@ pub fn write_position(
     out: &mut [u8],
     at: usize,
     position: NodePosition,
-    before: &Option<NodeRow>,
-    after: &Option<NodeRow>,
+    before: Option<NodeRow>,
+    after: Option<NodeRow>,
 ) -> usize
-    requires { at + length (lines_bytes (lines_at position.0 (seen_in before.now) (seen_in after.now))) ≤ length out.old }
-    ensures { Wrote out.old at (lines_bytes (lines_at position.0 (seen_in before.now) (seen_in after.now))) result out.new }
+    requires { at + length (lines_bytes (lines_at position.0 (seen_in before) (seen_in after))) ≤ length out.old }
+    ensures { Wrote out.old at (lines_bytes (lines_at position.0 (seen_in before) (seen_in after))) result out.new }
 {
     let kind = diff_changes::head_kind(before, after);
     let address = diff_changes::seen_address(after);

@@ -3,10 +3,7 @@ use Prim.Native.Nat.{ℕ}
 use mathlib.Core.Path.{◌≡◌, refl, ap, ◌∙◌}
 use mathlib.Core.Bool.{Bool, true, false, cond}
 use mathlib.Core.List.{List}
-use Rattle.rules.specs.Picture.{legal_size, fresh_number}
 use Rattle.rules.specs.Telegram as rules
-use Rattle.registry.specs.declared.image.MakeAnswer.TheVariants as makes
-use Rattle.registry.specs.View.{make_number_of, make_answer}
 use Rattle.tel_join_state.specs.declared.Reassembly.{Reassembly}
 use Rattle.tel_join_state.specs.declared.Joined.{Joined}
 use Rattle.tel_count.specs.declared.CountAnswer.{CountAnswer}
@@ -18,15 +15,6 @@ use Rattle.tel_cut.specs.Answers.{cut_number_of, cut_length_of}
 use Rattle.tel_join_state.specs.Answers.{join_number_of, join_msg_id_of, join_length_of, join_answer}
 use Rattle.tel_round_trip.proofs.Promises.{promises}
 use Rattle.lathepetal.specs.Numbers.{Cuts, Joins, complete_of, complete}
-
--- a picture made for L
-made_by : (b : Bool) → make_number_of (cond b makes.Made (makes.Refused 10)) ≡ cond b 0 10
-made_by true = refl
-made_by false = refl
-
-pub made : (l : ℕ) → make_number_of (make_answer l) ≡ fresh_number l
-unfolding make_answer fresh_number
-made l = made_by (legal_size l)
 
 -- telegrams counted
 pub counts : (c : rules.Count) {answer : CountAnswer} {number telegrams : ℕ}

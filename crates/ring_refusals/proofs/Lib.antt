@@ -1,2 +1,3 @@
 -- Laws of the numbers.
 pub mod Firsts
+pub mod Table

@@ -1,15 +1,32 @@
 -- The number that an event is refused with, 2 to 8, and 0 where it is not.
-use Rattle.std.specs.Prelude.{ℕ, ◌-◌, min, cond, not, ◌&&◌, eqb, ltb}
+use Rattle.std.specs.Prelude.{ℕ, ◌-◌, min, cond, not, ◌&&◌, eqb, ltb, None, Some}
+use Rattle.std.specs.Prelude as std
 use Rattle.std.proofs.Math.Option.{Option, none, some}
 use Rattle.rules.specs.House.{max_units}
 use Rattle.rules.specs.Picture.{State, Row, is_not_ok, is_open, is_ignored}
 use Rattle.rules.specs.Event.{Event, START, NCE, SHUTDOWN, ANSWER, NONE, DELAY}
 use Rattle.rules.specs.Step.{takes, not_taken}
+use Rattle.numbers.specs.declared.Refusal.{Refusal}
+use Rattle.numbers.specs.Numbers.{number_of}
 
 -- 2, 3, 4, or 0 where the table takes the event
 unfoldable pub refusal_of : State → Option Event → ℕ
 refusal_of s none = 2
 refusal_of s (some e) = cond (takes s e) 0 (not_taken e)
+
+-- the number of a refusal that the table has, or 0 where it has none
+abbrev pub number_or_none : std.Option Refusal → ℕ
+number_or_none None = 0
+number_or_none (Some r) = number_of r
+
+-- the table's column of an event
+unfoldable pub kind_in : Event → ℕ
+kind_in (START n) = 0
+kind_in (NCE n) = 1
+kind_in SHUTDOWN = 2
+kind_in (ANSWER c x a ps) = 3
+kind_in (NONE c x) = 4
+kind_in (DELAY c) = 5
 
 -- the place of a position's entry, and of the one that an event speaks of; the first where there is none
 unfoldable pub place_in : (x : ℕ) → ℕ

@@ -1,32 +1,78 @@
 // Why an event is refused, 3 to 8, from what the picture says of it.
 #![tactic(auto)]
 
-ghost use Rattle.std.specs.Prelude.{◌≡◌, map, ◌≤◌, length, get_or, IfOk};
+ghost use Rattle.std.specs.Prelude.{◌≡◌, map, ◌≤◌, ◌<◌, length, get_or, IfOk};
 ghost use Rattle.std.proofs.Math.Option.{some};
 ghost use Rattle.rules.specs.House.{max_units};
 ghost use Rattle.rules.specs.Picture.{no_row};
 ghost use Rattle.numbers.specs.Numbers.{number_in};
 ghost use Rattle.row_entry.specs.View.{row_of};
 ghost use Rattle.wire_events.specs.View.{event_of};
-ghost use Rattle.ring_state.specs.State.{state_of};
-ghost use Rattle.ring_refusals.specs.Numbers.{refusal_of, place_in, seat_in, seat_refusal, unasked_number, unexpected_number, reply_refusal};
+ghost use Rattle.ring_state.specs.State.{state_of, state_row};
+ghost use Rattle.ring_refusals.specs.Numbers.{refusal_of, kind_in, number_or_none, place_in, seat_in, seat_refusal, unasked_number, unexpected_number, reply_refusal};
 
 use numbers::Refusal;
 use ring_state::{NOTOK, OFF, RegistryState};
 use row_entry::NodeEntry;
+use sizes::MAX_UNITS;
 use wire_address::NodePosition;
 use wire_events::Event;
 
-// OFF takes START, NOTOK and OK take all others: 3 where the ring does not run, 4 where it runs already.
-#[tactic(auto, unfolding(crate::specs::Numbers::refusal_of, rules::specs::Step::takes, rules::specs::Step::not_taken, ring_state::specs::State::state_of))]
+// What the table says: taken, the ring does not run, it runs already.
+const TAKEN: Option<Refusal> = None;
+
+const IDLE: Option<Refusal> = Some(Refusal::NotRunning);
+
+const RUNS: Option<Refusal> = Some(Refusal::AlreadyRunning);
+
+// The refusals by state and kind: a row for each of OFF, NOTOK and OK, and in it START, NCE, SHUTDOWN, ANSWER, NONE and DELAY.
+const REFUSALS: [[Option<Refusal>; 6]; 3] = [
+    [TAKEN, IDLE, IDLE, IDLE, IDLE, IDLE],
+    [RUNS, TAKEN, TAKEN, TAKEN, TAKEN, TAKEN],
+    [RUNS, TAKEN, TAKEN, TAKEN, TAKEN, TAKEN],
+];
+
+// The table's row for a state.
+#[tactic(auto, unfolding(ring_state::specs::State::state_row))]
+fn row_of(state: RegistryState) -> usize
+    ensures { (result ≡ state_row state.0) × (result < 3) }
+{
+    match state.0 {
+        OFF => 0,
+        NOTOK => 1,
+        _ => 2,
+    }
+}
+
+// The table's column for an event.
+#[tactic(auto, unfolding(crate::specs::Numbers::kind_in))]
+fn kind_of(event: &Event) -> usize
+    ensures { (result ≡ kind_in (event_of event.now)) × (result < 6) }
+{
+    match event {
+        Event::Start(_) => 0,
+        Event::NetworkChange(_) => 1,
+        Event::Shutdown => 2,
+        Event::Answer { .. } => 3,
+        Event::NoAnswer { .. } => 4,
+        Event::DelayExpired { .. } => 5,
+    }
+}
+
+// What the table has for an event: 3, 4, or none where it takes it.
+fn listed(state: RegistryState, event: &Event) -> Option<Refusal>
+    ensures { number_or_none result ≡ refusal_of (state_of state.0) (some (event_of event.now)) }
+{
+    REFUSALS[row_of(state)][kind_of(event)]
+}
+
+// 3 or 4 by the table.
 pub fn refusal(state: RegistryState, event: &Event) -> Result<(), Refusal>
     ensures { number_in result ≡ refusal_of (state_of state.0) (some (event_of event.now)) }
 {
-    match (state.0, event) {
-        (OFF, Event::Start(_)) => Ok(()),
-        (OFF, _) => Err(Refusal::NotRunning),
-        (_, Event::Start(_)) => Err(Refusal::AlreadyRunning),
-        (_, _) => Ok(()),
+    match listed(state, event) {
+        None => Ok(()),
+        Some(refusal) => Err(refusal),
     }
 }
 
@@ -38,7 +84,6 @@ fn answering(
     pass: u32,
     position: NodePosition,
 ) -> Result<NodeEntry, Refusal>
-    requires { length entries.now ≤ max_units }
     ensures number { number_in result
         ≡ seat_refusal current (length entries.now) (get_or (map row_of entries.now) (place_in position.0) no_row) pass position.0 }
     ensures entry { IfOk result (λ e. row_of e ≡ get_or (map row_of entries.now) (place_in position.0) no_row) }
@@ -47,7 +92,7 @@ fn answering(
         return Err(Refusal::WrongPass);
     }
     let x = position.0 as usize;
-    if x == 0 || entries.len() < x {
+    if x == 0 || entries.len().min(MAX_UNITS) < x {
         return Err(Refusal::NoSuchPosition);
     }
     let entry = entries[x - 1];
@@ -86,7 +131,6 @@ pub fn reply_refusal(
     entries: &[NodeEntry],
     event: &Event,
 ) -> Result<(), Refusal>
-    requires { length entries.now ≤ max_units }
     ensures { number_in result ≡ reply_refusal (state_of state.0) current (length entries.now)
         (get_or (map row_of entries.now) (seat_in (some (event_of event.now))) no_row) (some (event_of event.now)) }
 {

@@ -44,6 +44,7 @@ pub const MAX_SILENCES: u8 = 20;
 
 // The paper's row: a node's address, its marks, and its pairs. Address and pairs count while the node is SETTING or LISTED, the
 // address alone while it is IGNORED, place and tries while it is SETTING.
+// C interface: fields that count by the status, in place of an enum, and a count beside two arrays.
 #[repr(C)]
 #[derive(Clone, Copy)]
 pub struct NodeEntry {
@@ -145,7 +146,8 @@ impl NodeEntry {
         tries: u8,
         bad: u8,
     ) -> Self
-        ensures { (◌≡◌ {A = Row} (row_of result) (record { status = picture.SETTING address.0 (pairs_of pairs.now) place tries; bad = bad; silences = 0 })) × Marked result }
+        ensures { (◌≡◌ {A = Row} (row_of result)
+            (record { status = picture.SETTING address.0 (pairs_of pairs.now) place tries; bad = bad; silences = 0 })) × Marked result }
     {
         NodeEntry::keeping(SETTING, address, pairs, place, tries, bad)
     }

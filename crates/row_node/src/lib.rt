@@ -11,6 +11,7 @@ use wire_address::{LogicalNodeAddress, NodePosition};
 use wire_pairs::Pairs;
 
 // A row of a listing: where the unit sits, and the paper's row for it.
+// C interface: the position, then the entry.
 #[repr(C)]
 #[derive(Clone, Copy)]
 pub struct NodeRow {

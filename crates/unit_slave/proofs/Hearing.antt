@@ -3,35 +3,31 @@ use Prim.Native.Nat.{ℕ, ◌-◌, ◌<◌, ◌≤◌}
 use mathlib.Core.Path.{◌≡◌, refl, sym, ◌∙◌, ap, subst}
 use mathlib.Core.Bool.{Bool, true, false, cond, not, ◌||◌}
 use mathlib.Core.List.{List, [], ◌∷◌}
-use mathlib.Core.Option.{some}
+use mathlib.Core.Option.{Option, some}
 use native.Mathlib.Omega.{arith}
 use borrow.Author.Tests.{lt-ltb, le-ltb, eq-eqb, ne_eqb}
 use lib.Dec.{eqb}
 use lib.ListN.{length, take, drop, length-drop, drop_of_length-le}
 use lib.Seq.{sets, take_all}
 use Rattle.laws.specs.Lists.{any, select}
-use Rattle.laws.specs.Bools.{clash, cond_true, cond_false}
+use Rattle.laws.specs.Bools.{cond_true, cond_false}
 use Rattle.laws.specs.Buffers.{Wrote, wrote_nothing, wrote_along}
 use Rattle.rules.specs.House.{max_pairs, max_answers, min_answer_room}
 use Rattle.rules.specs.Picture.{Pair, holds}
 use Rattle.rules.specs.Event.{two, four, read_pairs, header, encode_event}
 use Rattle.rules.specs.Order.{Order, SET, NOTOK, INVALID}
 use Rattle.rules.specs.Run.{Sent, sent_with}
-use Rattle.rules.specs.Listing.{Lookup, found, not_found, lookup_address}
 use Rattle.rules.proofs.Encode.{pairs_length}
-use Rattle.rules_unit.specs.Reading.{sent_of, decode_order}
-use Rattle.rules_unit.specs.Slave.{Known, Slave, besides, says_not_ok, empties, named, known_after, with_known, remember, learn, renumbered, is_answered, obeyed, heard, answer_of, Reading, refuse_order, on_order, read}
+use Rattle.rules_unit.specs.Reading.{decode_order}
+use Rattle.rules_unit.specs.Slave.{Known, Slave, besides, says_not_ok, empties, named, known_after, with_known, renumbered, is_answered, obeyed, heard, answer_of, Reading, refuse_order, on_order, read}
 use Rattle.wire_pairs.specs.declared.Pairs.{Pairs}
-use Rattle.wire_pairs.specs.View.{pair_of, pairs_of}
+use Rattle.wire_pairs.specs.View.{pairs_of}
 use Rattle.unit_answers.specs.declared.DecentralRegistry.{DecentralRegistry}
-use Rattle.unit_answers.specs.View.{known_of, answers_of}
-use Rattle.wire_order_reading.specs.declared.OrderRecord.{OrderRecord}
-use Rattle.wire_order_reading.specs.declared.Order as code
-use Rattle.wire_order_reading.specs.View.{order_of, record_of}
+use Rattle.unit_answers.specs.View.{answers_of}
 use Rattle.unit_slave.specs.declared.NetworkSlave.{NetworkSlave}
 use Rattle.unit_slave.specs.declared.OrderRead.{OrderRead}
-use Rattle.unit_slave.specs.View.{slave_of, Counted, handed, expected, Reads}
-use Rattle.unit_slave.specs.Steps.{emptied_on, on_pass, with_pairs, Becomes, Unanswered, is_refusal}
+use Rattle.unit_slave.specs.View.{slave_of, handed, expected, Reads}
+use Rattle.unit_slave.specs.Steps.{emptied_on, on_pass, with_pairs, Becomes}
 
 -- no pair is named: every answer stays
 besides_none : (ks : List Known) → besides [] ks ≡ ks
@@ -113,17 +109,6 @@ announces u p ps h =
       counts = λ c. record { pairs = omega (arith, c.pairs, h.1); known = c.known };
     }
 
--- a look-up that was refused, and one that was answered
-pub learns_nothing : (a : Pair) (l : Lookup) (u : Slave) → is_refusal l ≡ true → u ≡ learn a l u
-unfolding is_refusal learn
-learns_nothing a (found x b) u e = clash e refl
-learns_nothing a (not_found n) u e = refl
-
-pub learns : (b n : ℕ) (l : Lookup) (u : Slave) → is_refusal l ≡ false → with_known (remember (known_of b n (lookup_address l)) u.known) u ≡ learn (pair_of b n) l u
-unfolding is_refusal learn lookup_address known_of
-learns b n (found x a) u e = refl
-learns b n (not_found m) u e = clash refl e
-
 -- a unit that becomes another in two steps
 pub becomes_along : {came r : NetworkSlave} {v w : Slave} → v ≡ w → Becomes came v r → Becomes came w r
 becomes_along e h = record { unit = h.unit ∙ e; counts = h.counts }
@@ -131,23 +116,10 @@ becomes_along e h = record { unit = h.unit ∙ e; counts = h.counts }
 pub becomes_on : {came r s : NetworkSlave} {v : Slave} (f : Slave → Slave) → Becomes came v r → Becomes r (f (slave_of r)) s → Becomes came (f v) s
 becomes_on f h k = record { unit = k.unit ∙ ap f h.unit; counts = λ c. k.counts (h.counts c) }
 
--- handed back with nothing written
-pub unanswered : {came next : NetworkSlave} {v : Slave} {r : OrderRead} → Becomes came v next → (r.number ≡ 0) × (r.length ≡ 0) × (r.unit ≡ next) → Unanswered came v r
-unanswered {came} {v = v} h k = record { becomes = subst (Becomes came v) (sym k.2) h; number = k.0; length = k.1 }
-
-pub unanswered_along : {came : NetworkSlave} {v w : Slave} {r : OrderRead} → v ≡ w → Unanswered came v r → Unanswered came w r
-unanswered_along e h = record { becomes = becomes_along e h.becomes; number = h.number; length = h.length }
-
 -- a refusal hands back the very unit
-pub refused : (came : NetworkSlave) (b : List ℕ) (n : ℕ) {r : OrderRead} → (r.number ≡ n) × (r.length ≡ 0) × (r.unit ≡ came)
-    → Reads came (refuse_order n (slave_of came)) b r b
+pub refused : (came : NetworkSlave) (b : List ℕ) (n : ℕ) → Reads came (refuse_order n (slave_of came)) b (record { number = n; length = 0; unit = came }) b
 unfolding refuse_order handed expected
-refused came b n h =
-    record {
-      outcome = λ i. record { unit = slave_of (h.2 i); number = h.0 i; length = h.1 i; buffer = b };
-      kept = λ _. h.2;
-      counts = λ c. subst Counted (sym h.2) c;
-    }
+refused came b n = record { outcome = refl; kept = λ _. refl; counts = λ c. c }
 
 -- an order that is taken: the unit that it makes, and what is written
 module _ (came : NetworkSlave) (s : Sent) where
@@ -168,19 +140,18 @@ module _ (came : NetworkSlave) (s : Sent) where
         counts = h.counts;
       }
 
-  pub silent : (b : List ℕ) {r : OrderRead} → is_answered (slave_of came) s.order ≡ false → Unanswered came (heard (slave_of came) s) r
-      → Reads came (on_order (slave_of came) (some s)) b r b
-  silent b {r} e h =
-      taken b b [] (cond_false (answer_of s.pass (heard (slave_of came) s)) [] e) h.becomes h.number (subst (λ (n : ℕ). Wrote b 0 [] n b) (sym h.length) (wrote_nothing b 0))
+  pub silent : (b : List ℕ) {next : NetworkSlave} → is_answered (slave_of came) s.order ≡ false → Becomes came (heard (slave_of came) s) next
+      → Reads came (on_order (slave_of came) (some s)) b (record { number = 0; length = 0; unit = next }) b
+  silent b e h =
+      taken b b [] (cond_false (answer_of s.pass (heard (slave_of came) s)) [] e) h refl (wrote_nothing b 0)
 
-  pub answered : (before after : List ℕ) {next : NetworkSlave} {r : OrderRead} → is_answered (slave_of came) s.order ≡ true
-      → Becomes came (heard (slave_of came) s) next → (r.number ≡ 0) × (r.unit ≡ next) × Wrote before 0 (answer_of next.pass (slave_of next)) r.length after
-      → Reads came (on_order (slave_of came) (some s)) before r after
+  pub answered : (before after : List ℕ) {next : NetworkSlave} {n : ℕ} → is_answered (slave_of came) s.order ≡ true
+      → Becomes came (heard (slave_of came) s) next → Wrote before 0 (answer_of next.pass (slave_of next)) n after
+      → Reads came (on_order (slave_of came) (some s)) before (record { number = 0; length = n; unit = next }) after
   unfolding slave_of heard
-  answered before after {next} {r} e h k =
+  answered before after {next} {n} e h w =
       let v = heard (slave_of came) s in
-      taken before after (answer_of s.pass v) (cond_true (answer_of s.pass v) [] e) (subst (Becomes came v) (sym k.1) h) k.0
-      (wrote_along (ap (λ (w : Slave). answer_of w.pass w) h.unit) k.2)
+      taken before after (answer_of s.pass v) (cond_true (answer_of s.pass v) [] e) h refl (wrote_along (ap (λ (w : Slave). answer_of w.pass w) h.unit) w)
 
 -- room below the least, no order, an order
 module _ (u : Slave) (b : List ℕ) (room : ℕ) where
@@ -188,11 +159,9 @@ module _ (u : Slave) (b : List ℕ) (room : ℕ) where
   unfolding read
   read_short h = cond_true (refuse_order 1 u) _ (lt-ltb room min_answer_room h)
 
-  pub read_order : min_answer_room ≤ room → (sent : OrderRecord) {what : code.Order} → record_of sent b ≡ decode_order b → sent.order ≡ what
-      → read u b room ≡ on_order u (sent_of sent.pass (order_of what b))
-  unfolding read record_of
-  read_order h sent e f =
-      cond_false (refuse_order 1 u) _ (le-ltb room min_answer_room h) ∙ ap (on_order u) (sym e ∙ ap (λ (o : code.Order). sent_of sent.pass (order_of o b)) f)
+  pub read_order : min_answer_room ≤ room → (m : Option Sent) → m ≡ decode_order b → read u b room ≡ on_order u m
+  unfolding read
+  read_order h m e = cond_false (refuse_order 1 u) _ (le-ltb room min_answer_room h) ∙ ap (on_order u) (sym e)
 
 pub reads_along : {came : NetworkSlave} {o p : Reading} {before after : List ℕ} {r : OrderRead} → o ≡ p → Reads came p before r after → Reads came o before r after
 reads_along {came} {before = before} {after} {r} e h = subst (λ (o : Reading). Reads came o before r after) (sym e) h

@@ -6,7 +6,8 @@ use mathlib.Core.List.{List, [], ◌∷◌}
 use native.Mathlib.Omega.{arith}
 use borrow.Author.Tests.{lt-ltb, le-ltb, eq-eqb, ne_eqb}
 use lib.Dec.{eqb, ltb}
-use lib.ListN.{length}
+use lib.ListN.{length, take}
+use lib.Seq.{take_all}
 use Rattle.laws.specs.Bools.{or_true_left, or_true_right, or_false}
 use Rattle.rules.specs.House.{max_pairs}
 use Rattle.rules.specs.Event.{read_pairs}
@@ -40,6 +41,10 @@ module _ (b : List ℕ) where
   unfolding not_made half many
   whole h l =
       or_false half many (ap not (eq-eqb (length b) (2 * length (read_pairs b)) (omega (arith, read_count b)))) (le-ltb max_pairs (length (read_pairs b)) (omega (arith, read_count b)))
+
+  -- so few are all that are read
+  pub all_read : length b / 2 ≤ max_pairs → take max_pairs (read_pairs b) ≡ read_pairs b
+  all_read h = take_all max_pairs (read_pairs b) (omega (arith, read_count b))
 
   -- the number given back, and the unit
   pub made_number : {t : Bool} → not_made b ≡ t → cond t 2 0 ≡ make_number b

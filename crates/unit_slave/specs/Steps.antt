@@ -1,8 +1,14 @@
 -- A unit on its way through an order, and what the steps of an order promise.
-use Rattle.std.specs.Prelude.{ℕ, ◌≡◌, Bool, true, false, cond, List, [], eqb}
+use Rattle.std.specs.Prelude.{ℕ, ◌≤◌, ◌≡◌, Bool, true, false, cond, List, [], eqb, Result, Ok, Err}
+use Rattle.rules.specs.House.{max_pairs}
 use Rattle.rules.specs.Picture.{Pair}
+use Rattle.rules.specs.Event.{read_pairs}
 use Rattle.rules.specs.Listing.{Lookup, found, not_found}
-use Rattle.rules_unit.specs.Slave.{Slave}
+use Rattle.rules_unit.specs.Slave.{Slave, not_made}
+use Rattle.numbers.specs.declared.Refusal.{Refusal}
+use Rattle.numbers.specs.Numbers.{number_of}
+use Rattle.wire_pairs.specs.declared.Pairs.{Pairs}
+use Rattle.wire_pairs.specs.View.{pairs_of}
 use Rattle.unit_slave.specs.declared.NetworkSlave.{NetworkSlave}
 use Rattle.unit_slave.specs.declared.OrderRead.{OrderRead}
 use Rattle.unit_slave.specs.View.{slave_of, Counted}
@@ -26,11 +32,15 @@ pub record Becomes (came : NetworkSlave) (v : Slave) (r : NetworkSlave) : Type 0
   pub unit : slave_of r ≡ v
   pub counts : Counted came → Counted r
 
--- the same, and nothing is written
-pub record Unanswered (came : NetworkSlave) (v : Slave) (r : OrderRead) : Type 0 where
-  pub becomes : Becomes came v r.unit
-  pub number : r.number ≡ 0
-  pub length : r.length ≡ 0
+-- the pairs of a unit, read from bytes, or why they are refused
+abbrev pub PairsRead : List ℕ → Result Pairs Refusal → Type 0
+PairsRead b (Ok p) = (not_made b ≡ false) × (pairs_of p ≡ read_pairs b) × (p.count ≤ max_pairs)
+PairsRead b (Err r) = (not_made b ≡ true) × (number_of r ≡ 2)
+
+-- what comes back of an order that was read
+abbrev pub read_as : Result ℕ Refusal → NetworkSlave → OrderRead
+read_as (Ok n) u = record { number = 0; length = n; unit = u }
+read_as (Err r) u = record { number = number_of r; length = 0; unit = u }
 
 -- a look-up that is refused
 unfoldable pub is_refusal : Lookup → Bool

@@ -16,7 +16,7 @@ pub fn low(n: u32) -> u8
 pub fn word(high: u8, low: u8) -> u32
     ensures { (result ≡ high * 256 + low) × (result < 65536) }
 {
-    (high as u32) << 8 | low as u32
+    u32::from(u16::from_be_bytes([high, low]))
 }
 
 // Four bytes as one number.
@@ -24,9 +24,7 @@ pub fn read4(bytes: &[u8], at: usize) -> u32
     requires { at + 4 ≤ length bytes.now }
     ensures { result ≡ be4 bytes.now at }
 {
-    let high = word(bytes[at], bytes[at + 1]);
-    let low = word(bytes[at + 2], bytes[at + 3]);
-    high << 16 | low
+    u32::from_be_bytes([bytes[at], bytes[at + 1], bytes[at + 2], bytes[at + 3]])
 }
 
 // A number as two bytes.
@@ -34,8 +32,9 @@ pub fn write2(buffer: &mut [u8], at: usize, n: u32)
     requires { at + 2 ≤ length buffer.old }
     ensures { buffer.new ≡ sets buffer.old at (two n) }
 {
-    buffer[at] = low(n >> 8);
-    buffer[at + 1] = low(n);
+    let [_, _, high, low] = n.to_be_bytes();
+    buffer[at] = high;
+    buffer[at + 1] = low;
 }
 
 // A number as four bytes.

@@ -5,8 +5,8 @@ use mathlib.Core.List.{List, [], ◌∷◌, ◌++◌, append_assoc, append-nil}
 use native.Mathlib.Nat.{not-suc-le-zero, le_of_suc-le-suc}
 use native.Mathlib.Omega.{arith}
 use lib.ListN.{length, get_or, set, drop, take, drop_of_length-le}
-use lib.Seq.{set_out, drop-cons}
-use Rattle.laws.specs.Views.{firsts, firsts_length, firsts_few, firsts_here, firsts_at, firsts_set, firsts_push, firsts_min, take_firsts, take_past}
+use lib.Seq.{drop-cons}
+use Rattle.laws.specs.Views.{firsts, firsts_length, firsts_here, firsts_at, firsts_push, firsts_min, take_firsts, take_past}
 use Rattle.laws.specs.Bools.{decide}
 use Rattle.std.proofs.Common.{add-one, take_all, leb, leb-true, leb-false}
 use mathlib.Core.Logic.{◌⊎◌, inl, inr}
@@ -80,7 +80,7 @@ zip_first (suc n) [] ns = refl
 zip_first (suc n) (b ∷ bs) [] = refl
 zip_first (suc n) (b ∷ bs) (m ∷ ns) = ap (λ (l : List Pair). pair_of b m ∷ l) (zip_first n bs ns)
 
--- two arrays of any length: the pair at i, and those behind it; how many there are; none past the end
+-- two arrays of any length: the pair at i, and those behind it; how many there are
 module _ (bs ns : List ℕ) where
   pub first_here : (c i : ℕ) → i < c → i < length bs → i < length ns
       → drop i (pairs_from c bs ns) ≡ pair_of (get_or bs i 0) (get_or ns i 0) ∷ drop (i + 1) (pairs_from c bs ns)
@@ -96,9 +96,6 @@ module _ (bs ns : List ℕ) where
       let e = firsts_length (λ (a : Pair). a) (min c n) (zip_pairs bs ns) (omega arith) in
       ap length (sym (firsts_min (λ (a : Pair). a) c n (zip_pairs bs ns) (omega arith))) ∙ e ∙ ap (min c) (zip_short bs ns)
 
-  pub first_past : (c i : ℕ) → min c (min (length bs) (length ns)) ≤ i → drop i (pairs_from c bs ns) ≡ []
-  first_past c i l = drop_of_length-le (pairs_from c bs ns) {i = i} (omega (arith, first_length c))
-
   -- a smaller count is the first of them
   pub pairs_first : (c k : ℕ) → pairs_from (min c k) bs ns ≡ take k (pairs_from c bs ns)
   unfolding pairs_from
@@ -113,12 +110,9 @@ module _ (bs ns : List ℕ) where
 
 -- two arrays of one length
 module _ (cap : ℕ) (bs ns : List ℕ) (h : length bs ≡ cap) (k : length ns ≡ cap) where
-  -- the pair at i, and those behind it; none past the end
+  -- the pair at i, and those behind it
   pub pairs_here : (c i : ℕ) → i < min c cap → drop i (pairs_from c bs ns) ≡ pair_of (get_or bs i 0) (get_or ns i 0) ∷ drop (i + 1) (pairs_from c bs ns)
   pairs_here c i l = first_here bs ns c i (omega arith) (omega arith) (omega arith)
-
-  pub pairs_past : (c i : ℕ) → min c cap ≤ i → drop i (pairs_from c bs ns) ≡ []
-  pairs_past c i l = first_past bs ns c i (omega arith)
 
   -- more than there are is all
   pub pairs_min : (c : ℕ) → pairs_from (min c cap) bs ns ≡ pairs_from c bs ns
@@ -134,26 +128,12 @@ module _ (cap : ℕ) (bs ns : List ℕ) (h : length bs ≡ cap) (k : length ns �
       let z = zip_length cap bs ns h k in
       firsts_at (λ (a : Pair). a) c i d d (zip_pairs bs ns) (omega arith) (omega arith) ∙ zip_at i bs ns d (omega arith) (omega arith)
 
-  -- a store behind the first c does not show
-  pairs_behind : (c b n : ℕ) → pairs_from c (set bs c b) (set ns c n) ≡ pairs_from c bs ns
-  unfolding pairs_from
-  pairs_behind c b n =
-      let ps = firsts (λ (a : Pair). a) c (zip_pairs bs ns) in
-      ap (firsts (λ (a : Pair). a) c) (zip_set c bs ns b n) ∙ firsts_set (λ (a : Pair). a) c c (pair_of b n) (zip_pairs bs ns)
-      ∙ set_out ps c (pair_of b n) (firsts_few (λ (a : Pair). a) c (zip_pairs bs ns))
-
   -- one more pair
   pub pairs_push : (c b n : ℕ) → c < cap → pairs_from (c + 1) (set bs c b) (set ns c n) ≡ pairs_from c bs ns ++ pair_of b n ∷ []
   unfolding pairs_from
   pairs_push c b n l = ap (firsts (λ (a : Pair). a) (c + 1)) (zip_set c bs ns b n) ∙ firsts_push (λ (a : Pair). a) c (pair_of b n) (zip_pairs bs ns) (omega (arith, zip_length cap bs ns h k))
 
-  -- a pair stored behind them, and counted if it is kept
-  pub pairs_next : {e : ℕ} (kept : Bool) (c b n : ℕ) → c < cap → e ≡ cond kept 1 0
-      → pairs_from (c + e) (set bs c b) (set ns c n) ≡ pairs_from c bs ns ++ cond kept (pair_of b n ∷ []) []
-  pairs_next true c b n l f = rw f (pairs_push c b n l)
-  pairs_next false c b n l f = let z : c + 0 ≡ c = omega arith in rw (f, z) (pairs_behind c b n ∙ sym (append-nil (pairs_from c bs ns)))
-
--- as many as are counted, and no more than there are places; none past the end
+-- as many as are counted, and no more than there are places
 pub pairs_count : (p : Pairs) → length p.blocks ≡ max_pairs → length p.numbers ≡ max_pairs → length (pairs_of p) ≡ min p.count max_pairs
 unfolding pairs_of
 pairs_count p h k = pairs_length max_pairs p.blocks p.numbers h k p.count
@@ -167,6 +147,7 @@ module _ (p : Pairs) (n : ℕ) (l : n ≤ p.count) (h : length (pairs_of p) ≡ 
   pub pairs_slices : zip_pairs (take n p.blocks) (take n p.numbers) ≡ pairs_of p
   pairs_slices = zip_first n p.blocks p.numbers ∙ pairs_cut
 
+-- none past the end
 pub none_past : (ps : List Pair) {n i : ℕ} → length ps ≡ n → n ≤ i → drop i ps ≡ []
 none_past ps {n} {i} h l = drop_of_length-le ps {i = i} (omega arith)
 

@@ -15,17 +15,17 @@ use Rattle.diff_position.proofs.write_position.Goals as goal
 
 pub write_head-head-requires : goal.write_head-head-requires
 write_head-head-requires c =
-    let long : length (lines_bytes (lines_at c.args.position.0 (seen_in c.args.before.now) (seen_in c.args.after.now))) ≡ length (head_line (told c.head_kind-kind.result) c.args.position.0 c.seen_address-address.result.0) + length (collect (pair_line 4 c.args.position.0) (pairs_of c.gone-gone.result)) + length (collect (pair_line 5 c.args.position.0) (pairs_of c.new-new.result)) = found_length _ _ _ c.head_kind-kind.ensures c.seen_address-address.ensures c.gone-gone.ensures c.new-new.ensures in
+    let long : length (lines_bytes (lines_at c.args.position.0 (seen_in c.args.before) (seen_in c.args.after))) ≡ length (head_line (told c.head_kind-kind.result) c.args.position.0 c.seen_address-address.result.0) + length (collect (pair_line 4 c.args.position.0) (pairs_of c.gone-gone.result)) + length (collect (pair_line 5 c.args.position.0) (pairs_of c.new-new.result)) = found_length _ _ _ c.head_kind-kind.ensures c.seen_address-address.ensures c.gone-gone.ensures c.new-new.ensures in
     omega (arith, long)
 
 pub write_pairs-end-requires : goal.write_pairs-end-requires
 write_pairs-end-requires c =
-    let long : length (lines_bytes (lines_at c.args.position.0 (seen_in c.args.before.now) (seen_in c.args.after.now))) ≡ length (head_line (told c.head_kind-kind.result) c.args.position.0 c.seen_address-address.result.0) + length (collect (pair_line 4 c.args.position.0) (pairs_of c.gone-gone.result)) + length (collect (pair_line 5 c.args.position.0) (pairs_of c.new-new.result)) = found_length _ _ _ c.head_kind-kind.ensures c.seen_address-address.ensures c.gone-gone.ensures c.new-new.ensures in
+    let long : length (lines_bytes (lines_at c.args.position.0 (seen_in c.args.before) (seen_in c.args.after))) ≡ length (head_line (told c.head_kind-kind.result) c.args.position.0 c.seen_address-address.result.0) + length (collect (pair_line 4 c.args.position.0) (pairs_of c.gone-gone.result)) + length (collect (pair_line 5 c.args.position.0) (pairs_of c.new-new.result)) = found_length _ _ _ c.head_kind-kind.ensures c.seen_address-address.ensures c.gone-gone.ensures c.new-new.ensures in
     omega (arith, long, c.write_head-head.ensures.place, c.write_head-head.auto.out)
 
 pub write_pairs-requires : goal.write_pairs-requires
 write_pairs-requires c =
-    let long : length (lines_bytes (lines_at c.args.position.0 (seen_in c.args.before.now) (seen_in c.args.after.now))) ≡ length (head_line (told c.head_kind-kind.result) c.args.position.0 c.seen_address-address.result.0) + length (collect (pair_line 4 c.args.position.0) (pairs_of c.gone-gone.result)) + length (collect (pair_line 5 c.args.position.0) (pairs_of c.new-new.result)) = found_length _ _ _ c.head_kind-kind.ensures c.seen_address-address.ensures c.gone-gone.ensures c.new-new.ensures in
+    let long : length (lines_bytes (lines_at c.args.position.0 (seen_in c.args.before) (seen_in c.args.after))) ≡ length (head_line (told c.head_kind-kind.result) c.args.position.0 c.seen_address-address.result.0) + length (collect (pair_line 4 c.args.position.0) (pairs_of c.gone-gone.result)) + length (collect (pair_line 5 c.args.position.0) (pairs_of c.new-new.result)) = found_length _ _ _ c.head_kind-kind.ensures c.seen_address-address.ensures c.gone-gone.ensures c.new-new.ensures in
     omega (arith, long, c.write_head-head.ensures.place, c.write_head-head.auto.out, c.write_pairs-end.ensures.place, c.write_pairs-end.auto.out)
 
 pub returns : goal.returns

@@ -1,6 +1,5 @@
--- Two words, by shift.
+-- The highest byte first.
 use Prim.Native.Nat.{◌+◌}
-use Rattle.laws.specs.Bits.{shift_or}
 use Rattle.rules.specs.Event.{be2, be4}
 use mathlib.Core.Path.{◌≡◌}
 use native.Mathlib.Omega.{arith}
@@ -10,4 +9,4 @@ pub returns : goal.returns
 unfolding be4 be2
 returns c =
     let e : c.args.at + 2 + 1 ≡ c.args.at + 3 = omega arith in
-    rw e (omega (arith, shift_or 32 16 c.word-high.result c.word-low.result (omega arith) (omega arith)))
+    rw e (omega (arith, c.from_be_bytes.ensures))

@@ -5,21 +5,17 @@ use Rattle.unit_slave.proofs.Hearing.{answer_fits}
 use Rattle.unit_slave.specs.View.{slave_of}
 use Rattle.wire_pairs.proofs.Arrays.{pairs_length}
 use Rattle.wire_pairs.specs.View.{pairs_of}
-use lib.ListN.{length}
-use mathlib.Core.Path.{◌≡◌, refl}
 use native.Mathlib.Omega.{arith}
 use borrow.Author.Rules.{rules}
 use Rattle.unit_slave.proofs.NetworkSlave.answer.Goals as goal
 
-pub write_answer-length-requires : goal.write_answer-length-requires
+pub write_answer-requires : goal.write_answer-requires
 unfolding answer_of slave_of pairs_of
-write_answer-length-requires c =
-    let blocks-long : length c.args.self.pairs.blocks ≡ max_pairs = search rules in
-    let numbers-long : length c.args.self.pairs.numbers ≡ max_pairs = search rules in
+write_answer-requires c =
     let u = c.args.self in
     let p = u.pairs in
-    omega (arith, answer_fits u.pass (slave_of u) (omega (arith, pairs_length max_pairs p.blocks p.numbers (blocks-long) (numbers-long) p.count)), c.requires)
+    omega (arith, answer_fits u.pass (slave_of u) (omega (arith, pairs_length max_pairs p.blocks p.numbers (search rules) (search rules) p.count)), c.requires)
 
 pub returns : goal.returns
 unfolding answer_of slave_of
-returns c = (refl, refl, c.write_answer-length.ensures)
+returns c = c.write_answer.ensures

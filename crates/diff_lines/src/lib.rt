@@ -15,6 +15,7 @@ use sizes::LINE_SIZE;
 use wire_address::NodePosition;
 
 // The number of a refusal or 0, and how many bytes of lines are written.
+// C interface: a number beside a length.
 #[repr(C)]
 #[derive(Clone, Copy)]
 pub struct CompareOutcome {

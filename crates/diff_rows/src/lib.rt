@@ -42,7 +42,8 @@ fn fits(position: NodePosition, count: u8) -> bool
     1 <= position.0 && position.0 as usize <= MAX_UNITS && count as usize <= MAX_PAIRS
 }
 
-// The row is one that no listing has: it does not fit, or has a pair twice.
+// The row is one that no listing has: it does not fit, or has a pair twice. By value: behind a reference the proof does not know how long
+// its arrays are.
 fn is_bad(row: NodeRow) -> bool
     ensures { (result ≡ is_bad (node_row_of row))
         × (result ≡ false → (1 ≤ row.position.0) × (row.position.0 ≤ max_units) × (row.entry.count ≤ max_pairs)) }
@@ -52,6 +53,7 @@ fn is_bad(row: NodeRow) -> bool
 
 impl Rows {
     // No row yet.
+    #[tactic(auto, unfolding(crate::specs::Gathering::gathering_of, crate::specs::Gathering::nothing_seen, crate::specs::Gathering::seen_in))]
     pub fn none() -> Self
         ensures { gathering_of result ≡ nothing_seen }
     {

@@ -1,5 +1,4 @@
 -- Laws that several functions' proofs use.
 pub mod Segments
-pub mod Telling
 pub mod Learning
 pub mod Rows

@@ -35,5 +35,5 @@ pub extern "C" fn lathepetal_compare(
 {
     let before = gathered(first);
     let after = gathered(second);
-    differences(out, before, after)
+    differences(out, &before, &after)
 }

@@ -1,4 +1,5 @@
-// The ring picture: made, taken a record further, listed and looked up.
+// The ring picture: made, taken a record further, listed and looked up. C interface: a picture goes in and comes back, and a number
+// stands beside it.
 ghost use Rattle.std.specs.Prelude.{◌≡◌, length, ◌≤◌};
 ghost use Rattle.rules.specs.House.{max_entries};
 ghost use Rattle.rules.specs.Picture.{fresh, fresh_number};
@@ -9,9 +10,12 @@ ghost use Rattle.ring_listing.specs.View.{flat_of};
 ghost use Rattle.registry.specs.View.{view_of};
 ghost use Rattle.registry.specs.Outcome.{Does, HandedOut};
 
+use numbers::number_in;
 use registry::image::RegistryImage;
 use registry::record::Recorded;
 use ring_listing::Listing;
+use ring_lookup::number_and_place;
+use wire_pairs::Pair;
 
 // A fresh picture, and 0 where it is for the L that was asked for.
 #[repr(C)]
@@ -32,15 +36,14 @@ pub struct LookupOutcome {
 
 // A fresh picture for L; 10 where L is outside 12 to 45, and then one for 12.
 #[unsafe(no_mangle)]
+#[tactic(auto, unfolding(registry::specs::View::make_answer, rules::specs::Picture::fresh_number))]
 pub extern "C" fn lathepetal_fresh(l: usize) -> FreshOutcome
     ensures { (result.number ≡ fresh_number l) × (view_of result.picture ≡ fresh l) × HandedOut result.picture }
 {
     let made = RegistryImage::fresh(l);
-    let answer = made.answer;
-    let picture = made.picture;
     FreshOutcome {
-        number: answer.number(),
-        picture,
+        number: number_in(made.answer),
+        picture: made.picture,
     }
 }
 
@@ -73,12 +76,10 @@ pub extern "C" fn lathepetal_look_up(picture: RegistryImage, block: u8, number: 
         × (result.position ≡ lookup_position (look_up (view_of picture) (pair_of block number)))
         × (result.address ≡ lookup_address (look_up (view_of picture) (pair_of block number))) }
 {
-    let found = picture.look_up(block, number);
-    let position = found.position();
-    let address = found.address();
+    let (refusal, place) = number_and_place(picture.look_up(Pair { block, number }));
     LookupOutcome {
-        number: found.number(),
-        position: position.0,
-        address: address.0,
+        number: refusal,
+        position: place.position.0,
+        address: place.address.0,
     }
 }

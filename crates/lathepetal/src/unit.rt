@@ -1,4 +1,4 @@
-// The unit's side: a unit is made, reads an order, learns the answer of a look-up.
+// The unit's side: a unit is made, reads an order, learns the answer of a look-up. C interface: a unit goes in and comes back.
 ghost use Rattle.std.specs.Prelude.{◌≡◌, length};
 ghost use Rattle.rules_unit.specs.Slave.{make_number, make, read, learn};
 ghost use Rattle.wire_pairs.specs.View.{pair_of};
@@ -7,9 +7,10 @@ ghost use Rattle.lathepetal.specs.Units.{answer_of};
 
 use super::ring::LookupOutcome;
 use numbers::DONE;
-use ring_lookup::Lookup;
+use ring_lookup::Place;
 use unit_slave::{NetworkSlave, OrderRead, UnitMade};
 use wire_address::{LogicalNodeAddress, NodePosition};
+use wire_pairs::Pair;
 
 // A unit with the pairs that stand in these bytes; 2 where they are over 24 or no whole pairs, and then one with none.
 #[unsafe(no_mangle)]
@@ -32,7 +33,7 @@ pub extern "C" fn lathepetal_unit_read(
     unit.read(order, out)
 }
 
-// What a look-up of the pair gave is kept; a refusal hands back the very unit.
+// What a look-up of the pair gave is kept; a refusal, of whatever number, hands back the very unit.
 #[unsafe(no_mangle)]
 pub extern "C" fn lathepetal_unit_learn(
     unit: NetworkSlave,
@@ -43,16 +44,12 @@ pub extern "C" fn lathepetal_unit_learn(
     ensures { (slave_of result ≡ learn (pair_of block number) (answer_of answer) (slave_of unit)) × (Counted unit → Counted result)
         × ((answer.number ≡ 0 → ⊥) → result ≡ unit) }
 {
-    let refused = answer.number;
-    if refused != DONE {
-        return unit.learn(block, number, Lookup::Refused(refused));
+    if answer.number != DONE {
+        return unit;
     }
-    unit.learn(
-        block,
-        number,
-        Lookup::Found {
-            position: NodePosition(answer.position),
-            address: LogicalNodeAddress(answer.address),
-        },
-    )
+    let place = Place {
+        position: NodePosition(answer.position),
+        address: LogicalNodeAddress(answer.address),
+    };
+    unit.learn(Pair { block, number }, Ok(place))
 }

@@ -49,6 +49,7 @@ fn names(named: &[u8], pair: Pair) -> bool
 
 impl DecentralRegistry {
     // No answers.
+    #[tactic(auto, unfolding(crate::specs::View::answers_of, crate::specs::View::known_from, laws::specs::Views::firsts))]
     pub fn none() -> Self
         ensures { (answers_of result ≡ []) × (result.count ≡ 0) }
     {

@@ -1,12 +1,14 @@
--- Each way hands the method the answer that the numbers stand for.
+-- A refusal keeps nothing, and what is found is what the method learns.
 use mathlib.Core.Path.{refl}
-use Rattle.unit_slave.specs.Steps.{is_refusal}
+use Rattle.rules_unit.specs.Slave.{learn}
+use Rattle.wire_pairs.specs.View.{pair_in}
 use Rattle.lathepetal.proofs.Learning.{learn_refused, learn_found}
 use Rattle.lathepetal.proofs.unit.lathepetal_unit_learn.Goals as goal
 
-pub returns-then-refused-ne-DONE : goal.returns-then-refused-ne-DONE
-unfolding is_refusal
-returns-then-refused-ne-DONE c = (learn_refused _ _ _ c.if-refused-ne-DONE.true c.learn.ensures.0, c.learn.ensures.1, λ h. c.learn.ensures.2 refl)
+pub returns-then-answer-ne-DONE : goal.returns-then-answer-ne-DONE
+unfolding learn
+returns-then-answer-ne-DONE c = (learn_refused _ _ _ c.if-answer-ne-DONE.true refl, λ k. k, λ h. refl)
 
 pub returns : goal.returns
-returns c = (learn_found _ _ _ c.if-refused-ne-DONE.false c.learn-2.ensures.0, c.learn-2.ensures.1, λ h. absurd (h c.if-refused-ne-DONE.false))
+unfolding pair_in
+returns c = (learn_found _ _ _ c.if-answer-ne-DONE.false c.learn.ensures.0, c.learn.ensures.1, λ h. absurd (h c.if-answer-ne-DONE.false))

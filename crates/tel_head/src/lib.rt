@@ -80,7 +80,7 @@ fn pack(tel_id: u32, tel_len: u32) -> u8
     ((tel_id << 4) | (tel_len >> 8)) as u8
 }
 
-// Writes the head of a telegram.
+// Writes the head of a telegram. The TelID is a number and no `TelId`: the premise "below 16" of docs/DECISIONS.md holds it.
 pub fn write_head(buffer: &mut [u8], msg_id: u32, tel_id: u32, tel_len: u32)
     requires { (6 ≤ length buffer.old) × (tel_id < 16) × (tel_len < 4096) }
     ensures { buffer.new ≡ sets buffer.old 0 (four msg_id ++ head_bytes tel_id tel_len) }
@@ -106,7 +106,7 @@ pub fn msg_id(telegram: &[u8]) -> u32
     high << 16 | low
 }
 
-// The TelID of a telegram.
+// The TelID of a telegram. It is a number and no `TelId`: the rules' `tel_id_of` goes up to 15.
 pub fn tel_id(telegram: &[u8]) -> u32
     ensures { result ≡ tel_id_of telegram.now }
 {

@@ -76,6 +76,7 @@ pub record Reading (i : Input) (line : List ℕ) (j : Input) (line' : List ℕ) 
   pub turned : length bytes ≡ turns
   pub whole : length bytes < length (held i) → (came ≡ []) × (j ≡ past i (length bytes))
   pub within : i.from ≤ i.to → i.to ≤ chunk_size → (j.from ≤ j.to) × (j.to ≤ chunk_size)
+  pub handle : j.stdin ≡ i.stdin
 
 pub reading_start : (i : Input) (line : List ℕ) → Reading i line i line 0 0 0
 unfolding trimmed_length
@@ -92,6 +93,7 @@ reading_start i line =
       turned = refl;
       whole = λ h. (refl, λ t. record i { from = e t });
       within = λ h k. (h, k);
+      handle = refl;
     }
 
 module _ {i j : Input} {line line' : List ℕ} {seen count turns : ℕ} where
@@ -118,6 +120,7 @@ module _ {i j : Input} {line line' : List ℕ} {seen count turns : ℕ} where
                 let w = (r.whole h).1 in
                 absurd (omega (arith, l, h, length_held i, ap (λ (m : Input). m.from) w, ap (λ (m : Input). m.to) w));
             within = λ h m. (omega (arith, f.start l), f.most l);
+            handle = f.handle ∙ r.handle;
           }
 
   module _ (r : Reading i line j line' seen count turns) where
@@ -139,6 +142,7 @@ module _ {i j : Input} {line line' : List ℕ} {seen count turns : ℕ} where
               let w = (r.whole m).1 in
               absurd (omega (arith, h, m, length_held i, ap (λ (n : Input). n.from) w, ap (λ (n : Input). n.to) w));
           within = r.within;
+          handle = r.handle;
         }
       where
         some : (n : ℕ) → seen ≡ min n (max_line + 1) → ltb 0 n ≡ ltb 0 seen
@@ -161,6 +165,7 @@ module _ {i j : Input} {line line' : List ℕ} {seen count turns : ℕ} where
           stored = r.stored;
           whole = λ m. absurd (omega (arith, h, r.turned, m, length_held i));
           within = r.within;
+          handle = r.handle;
         }
 
     module _ (h : j.from < min j.to chunk_size) where
@@ -192,6 +197,7 @@ module _ {i j : Input} {line line' : List ℕ} {seen count turns : ℕ} where
             stored = r.stored;
             whole = used_whole;
             within = used_within;
+            handle = r.handle;
           }
 
       -- a byte of the line, and one turn more
@@ -214,6 +220,7 @@ module _ {i j : Input} {line line' : List ℕ} {seen count turns : ℕ} where
                 let p : length r.bytes + 1 ≡ length (r.bytes ++ b ∷ []) = omega (arith, more) in
                 (w.0, w.1 ∙ ap (past i) p);
             within = used_within;
+            handle = r.handle;
           }
         where
           go : (f : Bool) → trimmed_length (r.bytes ++ b ∷ []) ≡ cond f (trimmed_length r.bytes) (suc (length r.bytes))

@@ -36,6 +36,7 @@ pub record Filled (i : Input) (r : Input) : Type 0 where
   pub same : i.from < i.to → r ≡ i
   pub start : i.to ≤ i.from → r.from ≡ 0
   pub most : i.to ≤ i.from → r.to ≤ chunk_size
+  pub handle : r.stdin ≡ i.stdin
 
 -- a line with a byte at a place, if it has room for it
 unfoldable pub kept_at : List ℕ → ℕ → ℕ → List ℕ
@@ -73,3 +74,4 @@ pub record NextLine (i : Input) (line : List ℕ) (r : Option ℕ) (j : Input) (
   pub stored : line' ≡ sets line 0 (take max_line bytes)
   pub whole : length bytes < length (held i) → (came ≡ []) × (j ≡ past i (length bytes + 1))
   pub within : i.from ≤ i.to → i.to ≤ chunk_size → (j.from ≤ j.to) × (j.to ≤ chunk_size)
+  pub handle : j.stdin ≡ i.stdin

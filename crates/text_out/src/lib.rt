@@ -15,7 +15,7 @@ use text_words::digits;
 pub const SPACE: usize = 65536;
 
 // What waits to be written, at the start of its buffer, and where it goes; whether a write failed. The buffer is fixed memory, and no Vec:
-// the programs take none from the heap.
+// the programs take none from the heap. `waiting` stands beside it, and it is no ArrayVec: `Puts` speaks of any count.
 #[derive(Drop)]
 pub struct Output {
     pub stdout: Stdout,

@@ -11,7 +11,7 @@ pub enum NotDecimal {
     TooLarge,
 }
 
-// What a byte counts for in a number; one that is no digit counts for 16.
+// What a byte counts for in a number; one that is no digit counts for 16, which is no None: the rules' `hex_value` is that number.
 fn counted(byte: u8) -> usize
     ensures value { result ≡ hex_value byte }
     ensures most { result ≤ 16 }

@@ -15,7 +15,7 @@ pub const MAX_DIFFERENCE_ROOM: usize = 20000;
 const BYTE_DIGITS: usize = 2;
 
 // A command with its arguments; the bytes of a record or of pairs stand in a buffer beside it.
-#[derive(Clone, Copy)]
+#[derive(Clone, Copy, PartialEq, Eq, Debug)]
 pub enum Command {
     Fresh(usize),
     Room(usize),

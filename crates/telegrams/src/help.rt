@@ -1,10 +1,5 @@
 // What --help says.
-use std::io::Stdout;
-
-// The commands. A failed write changes nothing.
-pub(crate) fn write(stdout: Stdout) {
-    let _ = stdout.write_all(
-        b"telegrams: cuts and joins messages from a bench script on standard input.
+pub const TEXT: &[u8] = b"telegrams: cuts and joins messages from a bench script on standard input.
 
   payload HEX                 the payload is these bytes
   fill N SEED                 the payload is N bytes of a pattern, up to 70000
@@ -18,6 +13,4 @@ pub(crate) fn write(stdout: Stdout) {
 
 MSGID is 8 hexadecimal digits, as cutall 12 0102000C.
 What it writes is a script too: fed back in, it gives the same text again.
-",
-    );
-}
+";

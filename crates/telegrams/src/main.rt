@@ -11,7 +11,7 @@ use arrayvec::ArrayVec;
 use command::{BENCH_PAYLOAD, Command, MAX_TELEGRAM};
 use numbers::Refusal;
 use sizes::MAX_PAYLOAD;
-use std::env::Env;
+use std::rt::Env;
 use tel_join_state::Reassembly;
 use text_answers::refusal;
 use text_arguments::Reason;
@@ -165,11 +165,8 @@ impl Desk {
     ) -> Result<(), Refusal> {
         let lent = room.min(MAX_PAYLOAD);
         join_echo(output, l, lent, telegram);
-        // The check lends one field of a struct at a time, so the state is lent as a copy.
-        let mut joining = self.joining;
-        let taken = tel_join::join(&mut joining, l, &mut self.buffer[..lent], telegram);
-        self.joining = joining;
-        match taken? {
+        let buffer = &mut self.buffer[..];
+        match tel_join::join(&mut self.joining, l, &mut buffer[..lent], telegram)? {
             None => output.line(b"= open"),
             Some(whole) => message(output, whole.msg_id, &self.buffer[..whole.length.min(lent)]),
         }
@@ -233,11 +230,14 @@ impl Bench for Desk {
 }
 
 fn main(rt: HostRuntime) {
-    if text_bench::is_there(rt.arg(1, &mut [0u8; 1])) {
-        help::write(rt.stdout());
+    if text_bench::is_there(rt.arg(1, &mut [0])) {
+        // A failed write changes nothing.
+        let _ = rt.stdout().write_all(help::TEXT);
         return;
     }
-    let mut input = Input::new(rt.stdin());
-    let mut output = Output::new(rt.stdout());
-    text_bench::play::<Desk>(&mut input, &mut output, b'<');
+    text_bench::play::<Desk>(
+        &mut Input::new(rt.stdin()),
+        &mut Output::new(rt.stdout()),
+        b'<',
+    );
 }

@@ -89,7 +89,8 @@ fn shown_line(output: &mut Output, bytes: &[u8])
     output.line(bytes);
 }
 
-// A refusal: its number and what that means, by what was asked.
+// A refusal: its number and what that means, by what was asked. It is a number and no `Refusal`: `refusal_of` speaks of any number, and C's
+// outcomes hold numbers.
 pub fn refusal(output: &mut Output, asked: Asked, number: u8)
     ensures { Puts output.old (refusal_of asked number) output.new }
 {

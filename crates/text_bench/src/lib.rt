@@ -2,7 +2,7 @@
 #![tactic(auto)]
 
 ghost use Rattle.std.specs.Prelude.{◌≡◌, IfErr};
-ghost use Rattle.text_answers.specs.Remarks.{kind_of};
+ghost use Rattle.text_answers.specs.Remarks.{kind_of, not_understood};
 ghost use Rattle.text_answers.specs.declared.LineKind.TheVariants.{Remark, EarlierAnswer};
 ghost use Rattle.text_out.specs.Puts.{Puts};
 ghost use Rattle.text_out.specs.Spelling.{lined};
@@ -38,23 +38,32 @@ pub fn is_there(argument: Result<usize, FillError>) -> bool
     !matches!(argument, Err(FillError::NotPresent))
 }
 
-// A line of any kind: a remark is written back, an earlier answer is passed over, and a command is obeyed. `other` stands in front of the
-// other side's lines.
-fn answer<B: Bench>(bench: &mut B, output: &mut Output, line: &[u8], other: u8)
+// A line of any kind: a remark is written back, an earlier answer is passed over, and a command is obeyed. A line that is no command is an
+// Err, and told with its reason. `other` stands in front of the other side's lines.
+fn answer<B: Bench>(
+    bench: &mut B,
+    output: &mut Output,
+    line: &[u8],
+    other: u8,
+) -> Result<(), Reason>
     requires { B.holds bench.old }
     ensures kept { B.holds bench.new }
     ensures remark { kind_of other line.now ≡ Remark → Puts output.old (lined line.now) output.new × (bench.new ≡ bench.old) }
     ensures passed_over { kind_of other line.now ≡ EarlierAnswer → (output.new ≡ output.old) × (bench.new ≡ bench.old) }
+    ensures no_command { IfErr result (λ reason. Puts output.old (not_understood line.now reason) output.new) }
 {
     match text_answers::kind_of(line, other) {
         LineKind::Remark => output.line(line),
         LineKind::EarlierAnswer => {}
         LineKind::Offer => {
-            if let Err(reason) = bench.obey(output, line) {
+            let obeyed = bench.obey(output, line);
+            if let Err(reason) = obeyed {
                 text_answers::not_understood(output, line, reason);
             }
+            return obeyed;
         }
     }
+    Ok(())
 }
 
 // The script, line by line, up to its end or to a failed write; nothing is left waiting to be written.
@@ -69,7 +78,10 @@ pub fn play<B: Bench>(input: &mut Input, output: &mut Output, other: u8)
             return;
         };
         match line.get(..length) {
-            Some(fits) => answer(&mut bench, output, fits, other),
+            // Why a line is no command is told already.
+            Some(fits) => {
+                let _ = answer(&mut bench, output, fits, other);
+            }
             None => text_answers::not_understood(output, &line, Reason::TooLong),
         }
         output.drain();

@@ -127,7 +127,8 @@ fn of_compare(output: &mut Output, number: u8)
     }
 }
 
-// What a number given back means, by what was asked. C interface: the number is what C is given, and it is printed.
+// What a number given back means, by what was asked. It is a number and no `Refusal`: the tables of specs/Wording.antt and `no_words` speak
+// of any number, and C's outcomes hold numbers.
 pub fn meaning(output: &mut Output, asked: Asked, number: u8)
     ensures { Puts output.old (lined (words_of asked number)) output.new }
 {

@@ -26,7 +26,7 @@ pub enum Layout {
     Order,
 }
 
-// The third byte is the kind; 0 where there is none.
+// The third byte is the kind; 0 where there is none. It is a byte and no enum: a line may hold any byte there, also one that is no kind.
 fn kind_of(bytes: &[u8]) -> u8
     ensures { result ≡ get_or bytes.now 2 0 }
 {

@@ -10,8 +10,11 @@ use Rattle.rules.specs.Run.{Record, offered, step, next, after}
 use Rattle.rules.specs.Claims.{picture_at, record_at}
 use Rattle.rules.proofs.Demand3.{demand3}
 use Rattle.registry.specs.declared.image.RegistryImage.{RegistryImage}
-use Rattle.registry.specs.declared.image.MakeAnswer.TheVariants as makes
-use Rattle.registry.specs.View.{view_of, make_number_of, make_answer}
+use Rattle.std.specs.Prelude.{Result, Ok, Err}
+use Rattle.numbers.specs.declared.Refusal.{Refusal}
+use Rattle.numbers.specs.declared.Refusal.TheVariants as refusals
+use Rattle.numbers.specs.Numbers.{number_in}
+use Rattle.registry.specs.View.{view_of, make_answer}
 use Rattle.registry.specs.Outcome.{Handed, handed, expected, Does, Marks}
 use Rattle.registry.specs.Calls.{Call, Calls, then_call, image_at, record_of, Promises}
 
@@ -45,11 +48,11 @@ marks i cs h m zero = m
 marks i [] h m (suc k) = m
 marks i (c ∷ cs) (then_call d h) m (suc k) = marks c.result.picture cs h (d.marks m) k
 
-made : (l : ℕ) → make_number_of (make_answer l) ≡ fresh_number l
+made : (l : ℕ) → number_in (make_answer l) ≡ fresh_number l
 unfolding make_answer fresh_number
 made l = go (legal_size l)
   where
-    go : (b : Bool) → make_number_of (cond b makes.Made (makes.Refused 10)) ≡ cond b 0 10
+    go : (b : Bool) → number_in (cond {A = Result (Unit {0}) Refusal} b (Ok tt) (Err refusals.IllegalSize)) ≡ cond b 0 10
     go true = refl
     go false = refl
 

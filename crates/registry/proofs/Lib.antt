@@ -11,3 +11,5 @@ mod Recording
 pub mod Conflicts
 pub mod Stepping
 pub mod Following
+pub mod Ring
+pub mod Sizing

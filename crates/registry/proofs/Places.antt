@@ -28,7 +28,7 @@ module _ (s : RegistryImage) (x : ℕ) (h : Seat s x) where
   pub index : x ≡ suc (x - 1)
   index = omega (arith, h.first)
 
-  below : x - 1 < length (rows_of s.units s.entries)
+  pub below : x - 1 < length (rows_of s.units s.entries)
   below = omega (arith, h.first, h.last, rows_length s.entries h.full s.units)
 
   pub entry_row : (d : NodeEntry) → row_of (get_or s.entries (x - 1) d) ≡ get_or (rows_of s.units s.entries) (x - 1) no_row

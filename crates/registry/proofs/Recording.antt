@@ -1,30 +1,64 @@
 -- A record on its way: what is known once its bytes are decoded, and what its own step comes to.
-use Prim.Native.Nat.{ℕ, ◌≤◌}
+use Prim.Native.Nat.{ℕ, ◌≤◌, min}
+use mathlib.Core.Option.{some}
+use Rattle.std.specs.Prelude.{Err}
+use Rattle.numbers.specs.declared.Refusal.{Refusal}
+use Rattle.numbers.specs.declared.Refusal.TheVariants as refusals
+use Rattle.numbers.specs.Numbers.{number_of}
 use Rattle.ring_answer.specs.Hearing.{answered}
-use Rattle.wire_address.specs.declared.LogicalNodeAddress.{LogicalNodeAddress}
-use Rattle.wire_address.specs.declared.NodePosition.{NodePosition}
-use Rattle.ring_state.specs.State.{state_of}
 use Rattle.wire_events.specs.View.{event_of}
 use Rattle.wire_events.specs.declared.Event.{Event}
-use Rattle.wire_events.specs.declared.Event.TheVariants as events
+use Rattle.ring_refusals.specs.Numbers.{refusal_of, reply_refusal, seat_in}
+use Rattle.ring_state.specs.State.{state_of}
 use Rattle.row_entry.specs.View.{row_of}
 use Rattle.row_entry.specs.declared.NodeEntry.{NodeEntry}
-use Rattle.ring_refusals.specs.Numbers.{place_in, refusal_of, reply_refusal, seat_in}
-use Rattle.registry.proofs.Refusing.{answer_taken, late_at, none_late, none_taken, refused_late}
-use Rattle.registry.proofs.Stepping.{fits, recorded, refusal_same, step_taken, well_formed}
-use Rattle.registry.specs.Outcome.{Does, HandedOut, Seat, WellFormed, reply_outcome, respond_to}
+use Rattle.wire_address.specs.declared.LogicalNodeAddress.{LogicalNodeAddress}
+use Rattle.wire_address.specs.declared.NodePosition.{NodePosition}
+use Rattle.wire_events.specs.declared.Event.TheVariants as events
+use Rattle.wire_pairs.specs.View.{pairs_of}
+use Rattle.wire_pairs.specs.declared.Pairs.{Pairs}
+use Rattle.std.proofs.lemmas.List.{length-map}
+use Rattle.rules.specs.Picture.{no_row, seat_at}
+use Rattle.rules.specs.Renumber.{finished}
+use Rattle.rules.specs.Step.{silenced}
+use Rattle.registry.proofs.Doing.{refuses_with}
+use Rattle.registry.proofs.Refusing.{answer_taken, none_taken, refused_late}
+use native.Mathlib.Omega.{arith}
+use Rattle.registry.proofs.Stepping.{fits, recorded, step_refused, step_taken, well_formed}
+use Rattle.registry.specs.Outcome.{Does, given, HandedOut, Seat, WellFormed, reply_outcome, respond_to}
 use Rattle.registry.specs.View.{view_of}
 use Rattle.registry.specs.declared.image.RegistryImage.{RegistryImage}
 use Rattle.registry.specs.declared.record.Recorded.{Recorded}
 use Rattle.rules.specs.Event.{decode}
 use Rattle.rules.specs.House.{max_units, min_room}
-use Rattle.rules.specs.Picture.{Pair, seat_at}
-use Rattle.rules.specs.Renumber.{finished}
 use Rattle.rules.specs.Run.{Outcome, concluded, refused, step, written}
-use Rattle.rules.specs.Step.{silenced}
-use lib.ListN.{get_or, length}
-use mathlib.Core.List.{List, []}
+use native.Mathlib.Nat.{suc-ne-zero}
+use lib.ListN.{length, get_or}
+use mathlib.Core.List.{List, map}
 use mathlib.Core.Path.{◌∙◌, ◌≡◌, ap, refl, subst}
+
+-- no refusal has the number 0
+pub numbered : (e : Refusal) → number_of e ≡ 0 → ⊥
+numbered refusals.OrderRoomTooShort = suc-ne-zero 0
+numbered refusals.RecordMalformed = suc-ne-zero 1
+numbered refusals.NotRunning = suc-ne-zero 2
+numbered refusals.AlreadyRunning = suc-ne-zero 3
+numbered refusals.WrongPass = suc-ne-zero 4
+numbered refusals.NoSuchPosition = suc-ne-zero 5
+numbered refusals.PositionIgnored = suc-ne-zero 6
+numbered refusals.NotAsked = suc-ne-zero 7
+numbered refusals.NoPassLeft = suc-ne-zero 8
+numbered refusals.IllegalSize = suc-ne-zero 9
+numbered refusals.PayloadTooLong = suc-ne-zero 10
+numbered refusals.NoSuchTelegram = suc-ne-zero 11
+numbered refusals.RoomTooShort = suc-ne-zero 12
+numbered refusals.TelegramMalformed = suc-ne-zero 13
+numbered refusals.TelIdPassedOver = suc-ne-zero 14
+numbered refusals.OutOfSequence = suc-ne-zero 15
+numbered refusals.NotListed = suc-ne-zero 16
+numbered refusals.NotOk = suc-ne-zero 17
+numbered refusals.RowsNotRising = suc-ne-zero 19
+numbered refusals.NoRoomForDifferences = suc-ne-zero 20
 
 -- the picture, what was given and lent, and what was read of it
 pub record Decoded : Type 0 where
@@ -32,11 +66,9 @@ pub record Decoded : Type 0 where
   pub given : List ℕ
   pub lent : List ℕ
   pub event : Event
-  pub announced : List Pair
   pub handed : HandedOut image
-  pub full : length image.entries ≡ max_units
   pub room : min_room ≤ length lent
-  pub decoded : event_of event announced ≡ decode given
+  pub decoded : some (event_of event) ≡ decode given
 
 -- what the rules make of the record
 abbrev pub outcome : Decoded → Outcome
@@ -44,11 +76,7 @@ outcome r = step (view_of r.image) r.given (length r.lent)
 
 -- and where the event is f and nothing in front of its own step refuses it
 abbrev pub step_of : Decoded → Event → Outcome
-step_of r f = concluded (view_of r.image) (respond_to (view_of r.image) (event_of f r.announced))
-
--- the number of the table is 0
-abbrev pub Untabled : Decoded → Type 0
-Untabled r = ◌≡◌ {A = ℕ} 0 (refusal_of (view_of r.image).state (event_of r.event r.announced))
+step_of r f = concluded (view_of r.image) (respond_to (view_of r.image) (some (event_of f)))
 
 module _ (r : Decoded) where
   pub fits_at : {o : Outcome} → outcome r ≡ o → length (written o) ≤ length r.lent
@@ -57,40 +85,53 @@ module _ (r : Decoded) where
   pub recorded_at : {o : Outcome} {s : Recorded} {d : List ℕ} → outcome r ≡ o → Does r.image o r.lent s d → Does r.image (outcome r) r.lent s d × HandedOut s.picture
   recorded_at w k = recorded r.image r.handed r.given r.lent w k
 
-  pub formed : {f : Event} → r.event ≡ f → WellFormed (event_of f r.announced)
-  formed e = subst (λ (f : Event). WellFormed (event_of f r.announced)) e (well_formed (view_of r.image) r.given (length r.lent) r.room r.decoded)
+  pub formed : {f : Event} → r.event ≡ f → WellFormed (some (event_of f))
+  formed e = subst (λ (f : Event). WellFormed (some (event_of f))) e (well_formed (view_of r.image) r.given (length r.lent) r.room r.decoded)
 
-  -- the number of the table
-  pub tabled : {n : ℕ} → n ≡ refusal_of (state_of r.image.state.0) (event_of r.event []) → n ≡ refusal_of (view_of r.image).state (event_of r.event r.announced)
+  -- a refusal
+  pub recorded_err : (e : Refusal) → outcome r ≡ refused (number_of e)
+      → Does r.image (outcome r) r.lent (given r.image (Err e)) r.lent × HandedOut (given r.image (Err e)).picture
+  recorded_err e w = recorded_at w (refuses_with r.lent e refl)
+
+  -- 3 and 4
+  pub table_step : (e : Refusal) → number_of e ≡ refusal_of (state_of r.image.state.0) (some (event_of r.event)) → outcome r ≡ refused (number_of e)
   unfolding view_of
-  tabled e = e ∙ refusal_same (state_of r.image.state.0) r.event r.announced
+  table_step e h = step_refused (view_of r.image) r.given (length r.lent) r.room r.decoded h (numbered e)
 
-  module _ (t : Untabled r) where
-    pub own_step : {f : Event} → r.event ≡ f → outcome r ≡ step_of r f
-    own_step e = step_taken (view_of r.image) r.given (length r.lent) r.room r.decoded t ∙ ap (step_of r) e
+  -- the table takes it
+  pub own_step : ◌≡◌ {A = ℕ} 0 (refusal_of (view_of r.image).state (some (event_of r.event))) → {f : Event} → r.event ≡ f → outcome r ≡ step_of r f
+  own_step t e = step_taken (view_of r.image) r.given (length r.lent) r.room r.decoded t ∙ ap (step_of r) e
 
-    -- 5 to 8 are looked for at the entry of a place
-    module _ {n i : ℕ} (d : NodeEntry) (at : i ≡ seat_in (event_of r.event []))
-        (looked : n ≡ reply_refusal (view_of r.image).state r.image.pass r.image.units (row_of (get_or r.image.entries i d)) (event_of r.event [])) where
-      pub late_step : (n ≡ 0 → ⊥) → outcome r ≡ refused n
-      late_step late = own_step refl ∙ refused_late r.image r.full _ (event_of r.event r.announced) (late_at r.image r.event r.announced _ at looked) late
+  -- what is looked at for an ANSWER or a NONE
+  module _ (full : length r.image.entries ≡ max_units) (ring : List NodeEntry) (l : length ring ≡ min r.image.units max_units)
+      (rows : map row_of ring ≡ (view_of r.image).rows) (table : ◌≡◌ {A = ℕ} 0 (refusal_of (state_of r.image.state.0) (some (event_of r.event)))) {n : ℕ}
+      (looked : n ≡ reply_refusal (state_of r.image.state.0) r.image.pass (length ring) (get_or (map row_of ring) (seat_in (some (event_of r.event))) no_row) (some (event_of r.event))) where
+    many : min (length ring) max_units ≡ length (view_of r.image).rows
+    many = omega (arith, l, ap length rows, length-map ring row_of)
 
-      -- an ANSWER or a NONE that is not refused: its position has a row, which was looked at
-      module _ (none : n ≡ 0) (q : ℕ) (x : NodePosition) where
-        pub answered_at : (a : LogicalNodeAddress) → r.event ≡ events.Answer q x a
-            → Seat r.image x.0 × (i ≡ place_in x.0)
-            × (outcome r ≡ concluded (view_of r.image) (answered (seat_at (view_of r.image).rows x.0) x.0 a.0 r.announced (view_of r.image)))
-        unfolding view_of respond_to seat_in
-        answered_at a e =
-            let zero = none_late r.image r.announced _ e none (late_at r.image r.event r.announced _ at looked) in
-            let k = answer_taken r.image r.full _ q x.0 a.0 r.announced zero in
-            (k.0, at ∙ ap (λ (f : Event). seat_in (event_of f [])) e, own_step e ∙ k.1)
+    -- as the rules look at it, where the event is f
+    late : {f : Event} → r.event ≡ f → n ≡ reply_refusal (view_of r.image).state r.image.pass (length ring) (get_or (view_of r.image).rows (seat_in (some (event_of f))) no_row) (some (event_of f))
+    unfolding view_of
+    late {f} e =
+        looked
+        ∙ (λ t. reply_refusal (state_of r.image.state.0) r.image.pass (length ring) (get_or (rows t) (seat_in (some (event_of (e t)))) no_row) (some (event_of (e t))))
 
-        pub silent_at : r.event ≡ events.NoAnswer q x
-            → Seat r.image x.0 × (i ≡ place_in x.0)
-            × (outcome r ≡ reply_outcome (view_of r.image) x.0 0 (silenced (seat_at (view_of r.image).rows x.0).row) finished)
-        unfolding view_of respond_to seat_in
-        silent_at e =
-            let zero = none_late r.image r.announced _ e none (late_at r.image r.event r.announced _ at looked) in
-            let k = none_taken r.image r.full _ q x.0 zero in
-            (k.0, at ∙ ap (λ (f : Event). seat_in (event_of f [])) e, own_step e ∙ k.1)
+    taken : {f : Event} → r.event ≡ f → outcome r ≡ step_of r f
+    unfolding view_of
+    taken e = own_step table e
+
+    pub late_step : (e : Refusal) → number_of e ≡ n → outcome r ≡ refused (number_of e)
+    late_step e h =
+        taken refl ∙ refused_late r.image full (length ring) many (some (event_of r.event)) (h ∙ late refl) (numbered e)
+
+    module _ (none : ◌≡◌ {A = ℕ} 0 n) (q : ℕ) (x : NodePosition) where
+      pub answered_at : (a : LogicalNodeAddress) (ps : Pairs) → r.event ≡ events.Answer q x a ps
+          → Seat r.image x.0 × (outcome r ≡ concluded (view_of r.image) (answered (seat_at (view_of r.image).rows x.0) x.0 a.0 (pairs_of ps) (view_of r.image)))
+      unfolding respond_to
+      answered_at a ps e =
+          let k = answer_taken r.image full (length ring) many q x.0 a.0 (pairs_of ps) (none ∙ late e) in (k.0, taken e ∙ k.1)
+
+      pub silent_at : r.event ≡ events.NoAnswer q x
+          → Seat r.image x.0 × (outcome r ≡ reply_outcome (view_of r.image) x.0 0 (silenced (seat_at (view_of r.image).rows x.0).row) finished)
+      unfolding respond_to
+      silent_at e = let k = none_taken r.image full (length ring) many q x.0 (none ∙ late e) in (k.0, taken e ∙ k.1)

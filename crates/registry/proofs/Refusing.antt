@@ -1,8 +1,8 @@
 -- The refusals 5 to 8 of an ANSWER and a NONE, from the entry that the code looks at.
-use Prim.Native.Nat.{ℕ, suc, ◌-◌, ◌<◌, min}
+use Prim.Native.Nat.{ℕ, suc, ◌-◌, min}
 use mathlib.Core.Path.{◌≡◌, refl, sym, ◌∙◌, ap}
 use mathlib.Core.Bool.{Bool, true, false, cond, not, ◌&&◌, ◌||◌}
-use mathlib.Core.List.{List, []}
+use mathlib.Core.List.{List}
 use mathlib.Core.Option.{Option, none, some}
 use native.Mathlib.Omega.{arith}
 use native.Mathlib.Nat.{pos_of_ne-zero, suc-ne-zero}
@@ -11,23 +11,20 @@ use lib.Dec.{eqb, ltb}
 use lib.ListN.{length, get_or}
 use Rattle.laws.specs.Bools.{clash}
 use Rattle.rules.specs.House.{max_units}
-use Rattle.rules.specs.Picture.{Picture, State, Row, Pair, is_not_ok, is_open, is_ignored, seat_at, put}
+use Rattle.rules.specs.Picture.{Picture, Row, no_row, Pair, is_not_ok, is_open, is_ignored, seat_at, put}
 use Rattle.rules.specs.Event.{Event, START, NCE, SHUTDOWN, ANSWER, NONE, DELAY}
 use Rattle.rules.specs.Renumber.{finished}
 use Rattle.rules.specs.Step.{Response, refuse, change, refuse_if, no_position, respond, change_rows, set_order, silenced}
 use Rattle.rules.specs.Run.{refused, concluded}
-use Rattle.row_entry.specs.declared.NodeEntry.{NodeEntry}
-use Rattle.row_entry.specs.View.{row_of, rows_of}
+use Rattle.row_entry.specs.View.{rows_of}
 use Rattle.row_entry.proofs.Arrays.{rows_length}
-use Rattle.wire_events.specs.declared.Event as declared
-use Rattle.wire_events.specs.declared.Event.TheVariants as events
-use Rattle.wire_events.specs.View.{event_of}
 use Rattle.ring_answer.specs.Hearing.{answered}
 use Rattle.registry.specs.declared.image.RegistryImage.{RegistryImage}
 use Rattle.registry.specs.View.{view_of}
 use Rattle.registry.specs.Outcome.{Seat, respond_to, reply_outcome}
 use Rattle.ring_refusals.specs.Numbers.{place_in, seat_in, seat_refusal, or_else, reply_refusal}
-use Rattle.registry.proofs.Places.{seat_entry}
+use Rattle.ring_entries.proofs.Seats.{seat_row}
+use Rattle.registry.proofs.Places.{below, index}
 
 -- the number that an ANSWER or a NONE is refused with, by the rules' own tests; 0 where it is not
 unfoldable late_for : Picture → Option Event → ℕ
@@ -131,99 +128,62 @@ module _ (s : RegistryImage) (full : length s.entries ≡ max_units) where
         ap (λ (b : Bool). cond b 0 (cond (ltb max_units x) 0 (x - 1))) (ne_eqb x 0 (λ e. let f = h.first in suc-ne-zero 0 (omega (arith, e, f))))
         ∙ ap (λ (b : Bool). cond b 0 (x - 1)) (le-ltb max_units x (omega (arith, h.last)))
 
-module _ (s : RegistryImage) (full : length s.entries ≡ max_units) (d : NodeEntry) where
-  module _ (x : ℕ) where
-    own_row : no_position (view_of s) x ≡ false → row_of (get_or s.entries (place_in x) d) ≡ (seat_at (view_of s).rows x).row
-    unfolding view_of
-    own_row h = ap (λ (i : ℕ). row_of (get_or s.entries i d)) (placed s full x (seated s full x h)) ∙ sym (seat_entry s x (seated s full x h) d)
+module _ (s : RegistryImage) (full : length s.entries ≡ max_units) where
+  -- the row that is looked at for an event
+  looked : Option Event → Row
+  looked o = get_or (view_of s).rows (seat_in o) no_row
 
-    -- the tests in front of 8 are the rules', whatever is behind them
-    module _ (c : ℕ) (f : Row → ℕ) where
-      in_front : or_else (seat_refusal s.pass s.units (row_of (get_or s.entries (place_in x) d)) c x) (f (row_of (get_or s.entries (place_in x) d)))
-          ≡ cond (not (eqb c s.pass)) 5 (cond (no_position (view_of s) x) 6 (cond (is_ignored (seat_at (view_of s).rows x).row) 7 (f (seat_at (view_of s).rows x).row)))
-      unfolding seat_refusal or_else no_position view_of
-      in_front =
-          let r = row_of (get_or s.entries (place_in x) d) in
-          or_first (not (eqb c s.pass)) 5 _ _ refl
-          ∙ ap (cond (not (eqb c s.pass)) 5)
-          (or_first (eqb x 0) 6 _ _ refl
-          ∙ ap (cond (eqb x 0) 6) (or_first (ltb (min s.units max_units) x) 6 _ _ refl ∙ ap (cond (ltb (min s.units max_units) x) 6) (or_first (is_ignored r) 7 0 _ refl))
-          ∙ or_both (eqb x 0) (ltb (min s.units max_units) x) 6 _
-          ∙ ap (λ (n : ℕ). cond (eqb x 0 || ltb n x) 6 (cond (is_ignored r) 7 (f r))) (sym (as_long s full))
-          ∙ behind (no_position (view_of s) x) 6 (λ (q : Row). cond (is_ignored q) 7 (f q)) r (seat_at (view_of s).rows x).row own_row)
+  module _ (k : ℕ) (many : min k max_units ≡ length (view_of s).rows) where
+    module _ (x : ℕ) where
+      own_row : no_position (view_of s) x ≡ false → get_or (view_of s).rows (place_in x) no_row ≡ (seat_at (view_of s).rows x).row
+      unfolding view_of
+      own_row h =
+          let t = seated s full x h in
+          ap (λ (i : ℕ). get_or (rows_of s.units s.entries) i no_row) (placed s full x t)
+          ∙ sym (seat_row (rows_of s.units s.entries) (x - 1) (index s x t) (below s x t))
 
-  late_same : (o : Option Event) → reply_refusal (view_of s).state s.pass s.units (row_of (get_or s.entries (seat_in o) d)) o ≡ late_for (view_of s) o
-  unfolding reply_refusal late_for seat_in view_of
-  late_same none = refl
-  late_same (some (START n)) = refl
-  late_same (some (NCE n)) = refl
-  late_same (some SHUTDOWN) = refl
-  late_same (some (ANSWER c x a ps)) = in_front x c (λ (r : Row). cond (is_not_ok (view_of s).state && not (is_open r)) 8 0)
-  late_same (some (NONE c x)) = in_front x c (λ (r : Row). cond (not (is_open r)) 8 0)
-  late_same (some (DELAY c)) = refl
+      -- the tests in front of 8 are the rules', whatever is behind them
+      module _ (c : ℕ) (f : Row → ℕ) where
+        in_front : or_else (seat_refusal s.pass k (get_or (view_of s).rows (place_in x) no_row) c x) (f (get_or (view_of s).rows (place_in x) no_row))
+            ≡ cond (not (eqb c s.pass)) 5 (cond (no_position (view_of s) x) 6 (cond (is_ignored (seat_at (view_of s).rows x).row) 7 (f (seat_at (view_of s).rows x).row)))
+        unfolding seat_refusal or_else no_position view_of
+        in_front =
+            let r = get_or (view_of s).rows (place_in x) no_row in
+            or_first (not (eqb c s.pass)) 5 _ _ refl
+            ∙ ap (cond (not (eqb c s.pass)) 5)
+            (or_first (eqb x 0) 6 _ _ refl
+            ∙ ap (cond (eqb x 0) 6) (or_first (ltb (min k max_units) x) 6 _ _ refl ∙ ap (cond (ltb (min k max_units) x) 6) (or_first (is_ignored r) 7 0 _ refl))
+            ∙ or_both (eqb x 0) (ltb (min k max_units) x) 6 _
+            ∙ ap (λ (n : ℕ). cond (eqb x 0 || ltb n x) 6 (cond (is_ignored r) 7 (f r))) many
+            ∙ behind (no_position (view_of s) x) 6 (λ (q : Row). cond (is_ignored q) 7 (f q)) r (seat_at (view_of s).rows x).row own_row)
 
-  -- 5 to 8
-  pub refused_late : (o : Option Event) {n : ℕ} → n ≡ reply_refusal (view_of s).state s.pass s.units (row_of (get_or s.entries (seat_in o) d)) o → (n ≡ 0 → ⊥)
-      → concluded (view_of s) (respond_to (view_of s) o) ≡ refused n
-  refused_late o e z =
-      let f = e ∙ late_same o in
-      late_refused (view_of s) o (λ h. z (f ∙ h)) ∙ ap refused (sym f)
+    late_same : (o : Option Event) → reply_refusal (view_of s).state s.pass k (looked o) o ≡ late_for (view_of s) o
+    unfolding reply_refusal late_for seat_in view_of looked
+    late_same none = refl
+    late_same (some (START n)) = refl
+    late_same (some (NCE n)) = refl
+    late_same (some SHUTDOWN) = refl
+    late_same (some (ANSWER c x a ps)) = in_front x c (λ (r : Row). cond (is_not_ok (view_of s).state && not (is_open r)) 8 0)
+    late_same (some (NONE c x)) = in_front x c (λ (r : Row). cond (not (is_open r)) 8 0)
+    late_same (some (DELAY c)) = refl
 
-  module _ (c x : ℕ) where
-    pub answer_taken : (a : ℕ) (ps : List Pair) → ◌≡◌ {A = ℕ} 0 (reply_refusal (view_of s).state s.pass s.units (row_of (get_or s.entries (place_in x) d)) (some (ANSWER c x a ps)))
-        → Seat s x × (concluded (view_of s) (respond (view_of s) (ANSWER c x a ps)) ≡ concluded (view_of s) (answered (seat_at (view_of s).rows x) x a ps (view_of s)))
-    unfolding seat_in
-    answer_taken a ps h = let t = answer_passed (view_of s) c x a ps (h ∙ late_same (some (ANSWER c x a ps))) in (seated s full x t.0, t.1)
+    -- 5 to 8
+    pub refused_late : (o : Option Event) {n : ℕ} → n ≡ reply_refusal (view_of s).state s.pass k (get_or (view_of s).rows (seat_in o) no_row) o → (n ≡ 0 → ⊥)
+        → concluded (view_of s) (respond_to (view_of s) o) ≡ refused n
+    unfolding looked
+    refused_late o e z =
+        let f = e ∙ late_same o in
+        late_refused (view_of s) o (λ h. z (f ∙ h)) ∙ ap refused (sym f)
 
-    pub none_taken : ◌≡◌ {A = ℕ} 0 (reply_refusal (view_of s).state s.pass s.units (row_of (get_or s.entries (place_in x) d)) (some (NONE c x)))
-        → Seat s x × (concluded (view_of s) (respond (view_of s) (NONE c x)) ≡ reply_outcome (view_of s) x 0 (silenced (seat_at (view_of s).rows x).row) finished)
-    unfolding seat_in
-    none_taken h = let t = none_passed (view_of s) c x (h ∙ late_same (some (NONE c x))) in (seated s full x t.0, t.1)
+    module _ (c x : ℕ) where
+      pub answer_taken : (a : ℕ) (ps : List Pair) → let o = some (ANSWER c x a ps) in
+          ◌≡◌ {A = ℕ} 0 (reply_refusal (view_of s).state s.pass k (get_or (view_of s).rows (seat_in o) no_row) o)
+          → Seat s x × (concluded (view_of s) (respond (view_of s) (ANSWER c x a ps)) ≡ concluded (view_of s) (answered (seat_at (view_of s).rows x) x a ps (view_of s)))
+      unfolding looked
+      answer_taken a ps h = let t = answer_passed (view_of s) c x a ps (h ∙ late_same (some (ANSWER c x a ps))) in (seated s full x t.0, t.1)
 
--- neither the place nor the number looks at pairs
-pub seat_same : (e : declared.Event) (ps : List Pair) → seat_in (event_of e []) ≡ seat_in (event_of e ps)
-unfolding seat_in
-seat_same events.Malformed ps = refl
-seat_same (events.Start n) ps = refl
-seat_same (events.NetworkChange n) ps = refl
-seat_same events.Shutdown ps = refl
-seat_same (events.Answer c x a) ps = refl
-seat_same (events.NoAnswer c x) ps = refl
-seat_same (events.DelayExpired c) ps = refl
-
-pub late_pairs : (s : State) (n k : ℕ) (r : Row) (e : declared.Event) (ps : List Pair) → reply_refusal s n k r (event_of e []) ≡ reply_refusal s n k r (event_of e ps)
-unfolding reply_refusal
-late_pairs s n k r events.Malformed ps = refl
-late_pairs s n k r (events.Start m) ps = refl
-late_pairs s n k r (events.NetworkChange m) ps = refl
-late_pairs s n k r events.Shutdown ps = refl
-late_pairs s n k r (events.Answer c x a) ps = refl
-late_pairs s n k r (events.NoAnswer c x) ps = refl
-late_pairs s n k r (events.DelayExpired c) ps = refl
-
--- what the code asks for, as the rules have it: the place and the number do not look at pairs
-module _ (s : RegistryImage) (e : declared.Event) (ps : List Pair) (d : NodeEntry) {i n : ℕ} (at : i ≡ seat_in (event_of e [])) where
-  pub late_at : n ≡ reply_refusal (view_of s).state s.pass s.units (row_of (get_or s.entries i d)) (event_of e [])
-      → n ≡ reply_refusal (view_of s).state s.pass s.units (row_of (get_or s.entries (seat_in (event_of e ps)) d)) (event_of e ps)
-  late_at h =
-      h ∙ late_pairs (view_of s).state s.pass s.units (row_of (get_or s.entries i d)) e ps
-      ∙ ap (λ (k : ℕ). reply_refusal (view_of s).state s.pass s.units (row_of (get_or s.entries k d)) (event_of e ps)) (at ∙ seat_same e ps)
-
--- no number, where the event is known
-pub none_late : (s : RegistryImage) (ps : List Pair) (d : NodeEntry) {e f : declared.Event} {n : ℕ} → e ≡ f → n ≡ 0
-    → n ≡ reply_refusal (view_of s).state s.pass s.units (row_of (get_or s.entries (seat_in (event_of e ps)) d)) (event_of e ps)
-    → ◌≡◌ {A = ℕ} 0 (reply_refusal (view_of s).state s.pass s.units (row_of (get_or s.entries (seat_in (event_of f ps)) d)) (event_of f ps))
-none_late s ps d g z h =
-    sym z ∙ h
-    ∙ ap (λ (f : declared.Event). reply_refusal (view_of s).state s.pass s.units (row_of (get_or s.entries (seat_in (event_of f ps)) d)) (event_of f ps)) g
-
--- the entry at the place of a position that has a row
-module _ (s : RegistryImage) (x : ℕ) (h : Seat s x) {i : ℕ} (at : i ≡ place_in x) where
-  pub next_place : suc i ≡ x
-  next_place = omega (arith, at, placed s h.full x h, h.first)
-
-  pub place_below : i < min s.units max_units
-  place_below = omega (arith, next_place, h.last)
-
-  pub place_row : (d : NodeEntry) → row_of (get_or s.entries i d) ≡ (seat_at (rows_of s.units s.entries) x).row
-  place_row d = ap (λ (k : ℕ). row_of (get_or s.entries k d)) (at ∙ placed s h.full x h) ∙ sym (seat_entry s x h d)
+      pub none_taken : let o = some (NONE c x) in
+          ◌≡◌ {A = ℕ} 0 (reply_refusal (view_of s).state s.pass k (get_or (view_of s).rows (seat_in o) no_row) o)
+          → Seat s x × (concluded (view_of s) (respond (view_of s) (NONE c x)) ≡ reply_outcome (view_of s) x 0 (silenced (seat_at (view_of s).rows x).row) finished)
+      unfolding looked
+      none_taken h = let t = none_passed (view_of s) c x (h ∙ late_same (some (NONE c x))) in (seated s full x t.0, t.1)

@@ -9,7 +9,7 @@ use native.Mathlib.Nat.{suc-ne-zero}
 use borrow.Author.Tests.{lt-ltb, le-ltb}
 use lib.ListN.{length}
 use Rattle.rules.specs.House.{min_room}
-use Rattle.rules.specs.Picture.{Picture, State, Off, NotOk, Ok, Pair, fresh}
+use Rattle.rules.specs.Picture.{Picture, fresh}
 use Rattle.rules.specs.Event.{Event, START, NCE, SHUTDOWN, ANSWER, NONE, DELAY, decode}
 use Rattle.rules.specs.Step.{refuse_if, takes, not_taken, respond}
 use Rattle.rules.specs.Run.{Outcome, refused, on_event, on_decoded, concluded, step, Record, left, written, next, after}
@@ -19,9 +19,6 @@ use Rattle.rules.proofs.Sound.{Sound}
 use Rattle.rules.proofs.Runs.{Running, running_fresh, running_taken}
 use Rattle.rules.proofs.Sizes.{largest}
 use Rattle.rules.proofs.Records.{record_fits}
-use Rattle.wire_events.specs.declared.Event as declared
-use Rattle.wire_events.specs.declared.Event.TheVariants as events
-use Rattle.wire_events.specs.View.{event_of}
 use Rattle.registry.specs.declared.image.RegistryImage.{RegistryImage}
 use Rattle.registry.specs.declared.record.Recorded.{Recorded}
 use Rattle.registry.specs.View.{view_of}
@@ -109,22 +106,6 @@ module _ (p : Picture) (h : Reached p) where
         made = ap (λ (x : Handed). x.picture) k.outcome ∙ ap (λ (q : Picture). left q (step p b room)) (sym e)
             ∙ (λ i. next (h.made i) (record { bytes = b; room = room })) ∙ sym (after_one (fresh h.size) h.records (record { bytes = b; room = room }));
       }
-
--- the table does not look at pairs
-pub refusal_same : (s : State) (e : declared.Event) (ps : List Pair) → refusal_of s (event_of e []) ≡ refusal_of s (event_of e ps)
-unfolding refusal_of takes not_taken
-refusal_same s events.Malformed ps = refl
-refusal_same s (events.Start n) ps = refl
-refusal_same s (events.NetworkChange n) ps = refl
-refusal_same s events.Shutdown ps = refl
-refusal_same s (events.Answer c x a) ps = go s
-  where
-    go : (t : State) → refusal_of t (some (ANSWER c x.0 a.0 [])) ≡ refusal_of t (some (ANSWER c x.0 a.0 ps))
-    go Off = refl
-    go NotOk = refl
-    go Ok = refl
-refusal_same s (events.NoAnswer c x) ps = refl
-refusal_same s (events.DelayExpired c) ps = refl
 
 reached_fresh : {p : Picture} (l : ℕ) → p ≡ fresh l → Reached p
 unfolding after

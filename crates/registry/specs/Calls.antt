@@ -5,7 +5,8 @@ use Rattle.rules.specs.Run.{Record, offered, step}
 use Rattle.rules.specs.Claims.{picture_at, record_at, Demand3}
 use Rattle.registry.specs.declared.image.RegistryImage.{RegistryImage}
 use Rattle.registry.specs.declared.record.Recorded.{Recorded}
-use Rattle.registry.specs.View.{view_of, make_number_of, make_answer}
+use Rattle.registry.specs.View.{view_of, make_answer}
+use Rattle.numbers.specs.Numbers.{number_in}
 use Rattle.registry.specs.Outcome.{handed, expected, Does, Marks}
 
 -- one call: the record's bytes, the lent buffer before and after it, and what came back
@@ -43,6 +44,6 @@ pub record Follows (l : ℕ) (i : RegistryImage) (cs : List Call) : Type 0 where
 
 pub record Promises : Type 0 where
   -- the number given back where a picture is made is the rules'
-  pub made : (l : ℕ) → make_number_of (make_answer l) ≡ fresh_number l
+  pub made : (l : ℕ) → number_in (make_answer l) ≡ fresh_number l
   -- of every run of calls from a fresh picture for L
   pub follows : (l : ℕ) (i : RegistryImage) (cs : List Call) → view_of i ≡ fresh l → Calls i cs → Follows l i cs

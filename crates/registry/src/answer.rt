@@ -6,14 +6,13 @@ ghost use Rattle.row_entry.specs.View.{row_of};
 ghost use Rattle.row_entry.specs.Marks.{Marked};
 ghost use Rattle.row_renumber.specs.Marks.{renumbering_of};
 ghost use Rattle.registry.specs.View.{view_of};
-ghost use Rattle.registry.specs.Outcome.{Does, Seat, reply_outcome, conflict_outcome, ignore_outcome, restart_outcome};
+ghost use Rattle.registry.specs.Outcome.{Does, given, Seat, reply_outcome, conflict_outcome, ignore_outcome, restart_outcome};
 ghost use Rattle.ring_entries.specs.Verdicts.{verdict_of};
 
 use super::image::RegistryImage;
 use super::record::Recorded;
 use super::scan::MAX_PASS;
-use numbers::NO_PASS_LEFT;
-use ring_entries::changes::Change;
+use numbers::Refusal;
 use ring_entries::verdict::Verdict;
 use ring_entries::{changes, limit};
 use row_entry::NodeEntry;
@@ -36,13 +35,12 @@ impl RegistryImage {
         ensures { Does self (reply_outcome (view_of self) position.0 address.0 (row_of next) (renumbering_of step))
             out.old result out.new }
     {
-        let i = position.0 as usize - 1;
-        let entry = self.entries[i];
-        let state = self.state;
+        let seat = position.0 as usize - 1;
+        let before = self.entries[seat];
         let at = ring_tell::told::tell_reply(
-            out, self.pass, state, self.size, entry, next, position, address, step,
+            out, self.pass, self.state, self.size, &before, &next, position, address, step,
         );
-        self.entries[i] = next;
+        self.entries[seat] = next;
         self.finish(out, at)
     }
 
@@ -58,13 +56,18 @@ impl RegistryImage {
             × (length (written (ignore_outcome (verdict_of verdict) (view_of self) position.0 address.0)) ≤ length out.old) }
         ensures { Does self (ignore_outcome (verdict_of verdict) (view_of self) position.0 address.0) out.old result out.new }
     {
-        let i = position.0 as usize - 1;
-        let units = self.units as usize;
+        let seat = position.0 as usize - 1;
+        let n = self.unit_count();
         let before = self.entries;
-        let after = changes::all_counted(units, before, i, verdict, true, address);
-        let state = self.state;
+        let mut after = before;
+        changes::all_counted(&mut after[..n], seat, verdict, true, address);
         let at = ring_tell::told::tell_entries(
-            out, self.pass, state, self.size, units, before, after,
+            out,
+            self.pass,
+            self.state,
+            self.size,
+            &before[..n],
+            &after[..n],
         );
         self.entries = after;
         self.finish(out, at)
@@ -82,13 +85,13 @@ impl RegistryImage {
             × (length (written (restart_outcome (verdict_of verdict) (view_of self) position.0 address.0)) ≤ length out.old) }
         ensures { Does self (restart_outcome (verdict_of verdict) (view_of self) position.0 address.0) out.old result out.new }
     {
-        let i = position.0 as usize - 1;
-        let units = self.units as usize;
-        let before = self.entries;
-        let counted = changes::all_counted(units, before, i, verdict, false, address);
-        let at = wire_orders::write_notice(out, 0, self.pass + 1, Notice::NotOk);
-        let entries = changes::all_changed(units, counted, Change::Emptied);
+        let seat = position.0 as usize - 1;
+        let n = self.unit_count();
+        let mut entries = self.entries;
+        changes::all_counted(&mut entries[..n], seat, verdict, false, address);
+        changes::all_emptied(&mut entries[..n]);
         self.entries = entries;
+        let at = wire_orders::write_notice(out, 0, self.pass + 1, Notice::NotOk);
         self.scan(out, at)
     }
 
@@ -99,19 +102,18 @@ impl RegistryImage {
         position: NodePosition,
         address: LogicalNodeAddress,
         verdict: Verdict,
-    ) -> Recorded
+    ) -> Result<Recorded, Refusal>
         requires { Seat self position.0 × (3 ≤ self.size)
             × (length (written (conflict_outcome (verdict_of verdict) (view_of self) position.0 address.0)) ≤ length out.old) }
-        ensures { Does self (conflict_outcome (verdict_of verdict) (view_of self) position.0 address.0) out.old result out.new }
+        ensures { Does self (conflict_outcome (verdict_of verdict) (view_of self) position.0 address.0) out.old (given self result) out.new }
     {
-        let i = position.0 as usize - 1;
-        let entries = self.entries;
-        if limit::reaches_limit(self.units as usize, entries, i, verdict, address) {
-            return self.ignore(out, position, address, verdict);
+        let seat = position.0 as usize - 1;
+        if limit::reaches_limit(self.ring(), seat, verdict, address) {
+            return Ok(self.ignore(out, position, address, verdict));
         }
         if MAX_PASS <= self.pass {
-            return self.refuse(NO_PASS_LEFT);
+            return Err(Refusal::NoPassLeft);
         }
-        self.restart(out, position, address, verdict)
+        Ok(self.restart(out, position, address, verdict))
     }
 }

@@ -16,24 +16,10 @@ impl RegistryImage {
         requires { at + length (encode_all self.pass (end_orders (view_of self))) ≤ length out.old }
         ensures { Ends (view_of self) out.old at result out.new × (Marks self → Marks result.picture) }
     {
-        let entries = self.entries;
-        let seen = outlook::outlook_of(self.units as usize, entries);
-        let came = self.state;
-        let delay = self.delay;
-        let closed = ring_ending::close(
-            out,
-            at,
-            self.pass,
-            came,
-            delay,
-            seen.open,
-            seen.silent,
-            seen.short,
-        );
-        let state = closed.state;
-        self.state = state;
-        let next = closed.delay;
-        self.delay = next;
+        let seen = outlook::outlook_of(self.ring());
+        let closed = ring_ending::close(out, at, self.pass, self.state, self.delay, seen);
+        self.state = closed.state;
+        self.delay = closed.delay;
         Recorded {
             number: DONE,
             length: closed.end,

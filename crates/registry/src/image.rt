@@ -1,18 +1,21 @@
 // The ring picture, and how it is made for L.
-ghost use Rattle.std.specs.Prelude.{◌≡◌, false, []};
+ghost use Rattle.std.specs.Prelude.{◌≡◌, false, [], map, min, length, take};
 ghost use Rattle.laws.specs.Alls.{All};
+ghost use Rattle.rules.specs.House.{max_units};
 ghost use Rattle.rules.specs.Picture.{Picture, Off, fresh};
+ghost use Rattle.row_entry.specs.View.{row_of};
 ghost use Rattle.row_entry.specs.Marks.{Marked};
-ghost use Rattle.registry.specs.View.{view_of, AllNew, make_number_of, make_answer};
+ghost use Rattle.registry.specs.View.{view_of, AllNew, make_answer};
 ghost use Rattle.registry.specs.Outcome.{Marks, HandedOut};
 
-use numbers::{DONE, ILLEGAL_SIZE};
+use numbers::Refusal;
 use ring_state::{CfgDelay, OFF, RegistryState, STOPPED};
 use row_entry::NodeEntry;
-use sizes::{MAX_SIZE, MAX_UNITS, MIN_SIZE};
+use sizes::{MAX_UNITS, MIN_SIZE};
 
 // The paper's ring picture: the pass, the state, whether a delay runs, L, and an entry for each unit of the ring, the first `units` of
 // the array.
+// C interface: these fields in this order, with a count beside the entries.
 #[repr(C)]
 #[derive(Clone, Copy)]
 pub struct RegistryImage {
@@ -24,30 +27,11 @@ pub struct RegistryImage {
     pub entries: [NodeEntry; MAX_UNITS],
 }
 
-// What making a picture answers: the number of a refusal, or that it is made for the L that was asked for.
-#[derive(Clone, Copy)]
-pub enum MakeAnswer {
-    Refused(u8),
-    Made,
-}
-
-// An answer, and a fresh picture.
+// Whether the picture is for the L that was asked for, and a fresh picture.
 #[derive(Clone, Copy)]
 pub struct MadeImage {
-    pub answer: MakeAnswer,
+    pub answer: Result<(), Refusal>,
     pub picture: RegistryImage,
-}
-
-impl MakeAnswer {
-    // The number given back: 0 where the picture is for the L that was asked for.
-    pub fn number(self) -> u8
-        ensures { result ≡ make_number_of self }
-    {
-        match self {
-            MakeAnswer::Refused(number) => number,
-            MakeAnswer::Made => DONE,
-        }
-    }
 }
 
 // Entries that are asked and count nothing yet.
@@ -76,21 +60,31 @@ impl RegistryImage {
     pub fn fresh(l: usize) -> MadeImage
         ensures { (result.answer ≡ make_answer l) × (view_of result.picture ≡ fresh l) × HandedOut result.picture }
     {
-        if l < MIN_SIZE {
+        if sizes::illegal(l) {
             return MadeImage {
-                answer: MakeAnswer::Refused(ILLEGAL_SIZE),
-                picture: RegistryImage::stopped(0, MIN_SIZE as u8),
-            };
-        }
-        if MAX_SIZE < l {
-            return MadeImage {
-                answer: MakeAnswer::Refused(ILLEGAL_SIZE),
+                answer: Err(Refusal::IllegalSize),
                 picture: RegistryImage::stopped(0, MIN_SIZE as u8),
             };
         }
         MadeImage {
-            answer: MakeAnswer::Made,
+            answer: Ok(()),
             picture: RegistryImage::stopped(0, l as u8),
         }
+    }
+
+    // How many units the ring has: as many as are said, and no more than there are entries.
+    pub(crate) fn unit_count(&self) -> usize
+        ensures { result ≡ min self.now.units max_units }
+    {
+        row_entry::clamp(self.units as usize)
+    }
+
+    // The entries of the ring.
+    pub(crate) fn ring(&self) -> &[NodeEntry]
+        ensures entries { result.now ≡ take (min self.now.units max_units) self.now.entries }
+        ensures length { length result.now ≡ min self.now.units max_units }
+        ensures rows { map row_of result.now ≡ (view_of self.now).rows }
+    {
+        &self.entries[..self.unit_count()]
     }
 }

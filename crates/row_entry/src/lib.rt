@@ -146,7 +146,8 @@ impl NodeEntry {
         tries: u8,
         bad: u8,
     ) -> Self
-        ensures { (◌≡◌ {A = Row} (row_of result) (record { status = picture.SETTING address.0 (pairs_of pairs.now) place tries; bad = bad; silences = 0 })) × Marked result }
+        ensures { (◌≡◌ {A = Row} (row_of result)
+            (record { status = picture.SETTING address.0 (pairs_of pairs.now) place tries; bad = bad; silences = 0 })) × Marked result }
     {
         NodeEntry::keeping(SETTING, address, pairs, place, tries, bad)
     }

@@ -5,7 +5,7 @@ use mathlib.Core.Bool.{Bool, true, false, cond, not, ◌||◌}
 use mathlib.Core.List.{List, [], ◌∷◌}
 use mathlib.Core.Option.{Option, some}
 use native.Mathlib.Omega.{arith}
-use borrow.Author.Tests.{lt-ltb, le-ltb, eq-eqb, ne_eqb}
+use borrow.Author.Tests.{lt-ltb, le-ltb}
 use lib.Dec.{eqb}
 use lib.ListN.{length, take, drop, length-drop, drop_of_length-le}
 use lib.Seq.{sets, take_all}
@@ -20,7 +20,6 @@ use Rattle.rules.specs.Run.{Sent, sent_with}
 use Rattle.rules.proofs.Encode.{pairs_length}
 use Rattle.rules_unit.specs.Reading.{decode_order}
 use Rattle.rules_unit.specs.Slave.{Known, Slave, besides, says_not_ok, empties, named, known_after, with_known, renumbered, is_answered, obeyed, heard, answer_of, Reading, refuse_order, on_order, read}
-use Rattle.wire_pairs.specs.declared.Pairs.{Pairs}
 use Rattle.wire_pairs.specs.View.{pairs_of}
 use Rattle.unit_answers.specs.declared.DecentralRegistry.{DecentralRegistry}
 use Rattle.unit_answers.specs.View.{answers_of}
@@ -46,17 +45,6 @@ besides_rest b ks = ap (λ (l : List ℕ). besides (read_pairs l) ks) (take_all 
 
 -- what each order makes of a unit
 module _ (n : ℕ) (u : Slave) where
-  -- the last order's pass, and another
-  pub same_pass_lem : n ≡ u.pass → u ≡ on_pass n u
-  unfolding on_pass
-  same_pass_lem e =
-      λ i. record { position = u.position; address = u.address; pairs = u.pairs; pass = sym e i; known = sym (cond_true u.known [] (eq-eqb n u.pass e)) i }
-
-  pub other_pass : (n ≡ u.pass → ⊥) → emptied_on n u ≡ on_pass n u
-  unfolding on_pass emptied_on
-  other_pass e =
-      λ i. record { position = u.position; address = u.address; pairs = u.pairs; pass = n; known = sym (cond_false u.known [] (ne_eqb n u.pass e)) i }
-
   -- one that names no pairs and says nothing of the ring keeps or empties by its pass
   known_on : (o : Order) → named o ≡ [] → says_not_ok o ≡ false → cond (eqb n u.pass) u.known [] ≡ known_after u.pass u.known (sent_with n o)
   unfolding sent_with known_after empties
@@ -90,7 +78,7 @@ module _ (n : ℕ) (u : Slave) where
       go true = refl
       go false = refl
 
--- a unit with other answers, and with other pairs
+-- a unit with other answers
 pub knows : (u : NetworkSlave) (k : DecentralRegistry) (ks : List Known) → (answers_of k ≡ ks) × (k.count ≤ max_answers)
     → Becomes u (with_known ks (slave_of u)) (record { pass = u.pass; address = u.address; position = u.position; pairs = u.pairs; known = k })
 unfolding slave_of with_known
@@ -98,15 +86,6 @@ knows u k ks h =
     record {
       unit = λ i. record { position = u.position.0; address = u.address.0; pairs = pairs_of u.pairs; pass = u.pass; known = h.0 i };
       counts = λ c. record { pairs = c.pairs; known = h.1 };
-    }
-
-pub announces : (u : NetworkSlave) (p : Pairs) (ps : List Pair) → (pairs_of p ≡ ps) × (p.count ≡ u.pairs.count)
-    → Becomes u (with_pairs ps (slave_of u)) (record { pass = u.pass; address = u.address; position = u.position; pairs = p; known = u.known })
-unfolding slave_of with_pairs
-announces u p ps h =
-    record {
-      unit = λ i. record { position = u.position.0; address = u.address.0; pairs = h.0 i; pass = u.pass; known = answers_of u.known };
-      counts = λ c. record { pairs = omega (arith, c.pairs, h.1); known = c.known };
     }
 
 -- a unit that becomes another in two steps

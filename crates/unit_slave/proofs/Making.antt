@@ -1,7 +1,7 @@
 -- A unit made from bytes: how many pairs they are, and which bytes are refused.
 use Prim.Native.Nat.{ℕ, ◌*◌, ◌/◌, ◌%◌, ◌<◌, ◌≤◌}
-use mathlib.Core.Path.{◌≡◌, sym, ap}
-use mathlib.Core.Bool.{Bool, true, false, cond, not}
+use mathlib.Core.Path.{◌≡◌, ap}
+use mathlib.Core.Bool.{Bool, true, false, not}
 use mathlib.Core.List.{List, [], ◌∷◌}
 use native.Mathlib.Omega.{arith}
 use borrow.Author.Tests.{lt-ltb, le-ltb, eq-eqb, ne_eqb}
@@ -11,8 +11,7 @@ use lib.Seq.{take_all}
 use Rattle.laws.specs.Bools.{or_true_left, or_true_right, or_false}
 use Rattle.rules.specs.House.{max_pairs}
 use Rattle.rules.specs.Event.{read_pairs}
-use Rattle.rules_unit.specs.Slave.{not_made, make, make_number}
-use Rattle.unit_slave.specs.Steps.{unread}
+use Rattle.rules_unit.specs.Slave.{not_made}
 
 -- as many pairs as there are two bytes
 read_count : (b : List ℕ) → length (read_pairs b) ≡ length b / 2
@@ -45,12 +44,3 @@ module _ (b : List ℕ) where
   -- so few are all that are read
   pub all_read : length b / 2 ≤ max_pairs → take max_pairs (read_pairs b) ≡ read_pairs b
   all_read h = take_all max_pairs (read_pairs b) (omega (arith, read_count b))
-
-  -- the number given back, and the unit
-  pub made_number : {t : Bool} → not_made b ≡ t → cond t 2 0 ≡ make_number b
-  unfolding make_number
-  made_number e = sym (ap (λ (t : Bool). cond t 2 0) e)
-
-  pub made_unit : (x a : ℕ) {t : Bool} → not_made b ≡ t → unread x a (cond t [] (read_pairs b)) ≡ make x a b
-  unfolding make unread
-  made_unit x a e = sym (ap (λ (t : Bool). unread x a (cond t [] (read_pairs b))) e)

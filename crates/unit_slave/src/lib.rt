@@ -64,6 +64,7 @@ fn pairs_in(bytes: &[u8]) -> Result<Pairs, Refusal>
 
 impl NetworkSlave {
     // A unit that has read no order.
+    #[tactic(auto, unfolding(crate::specs::View::slave_of, crate::specs::Steps::unread))]
     fn unread(position: NodePosition, address: LogicalNodeAddress, pairs: Pairs) -> NetworkSlave
         ensures { (slave_of result ≡ unread position.0 address.0 (pairs_of pairs)) × (pairs.count ≤ max_pairs → Counted result) }
     {
@@ -77,6 +78,7 @@ impl NetworkSlave {
     }
 
     // A unit with the pairs that stand in these bytes; 2 where they are over 24 or no whole pairs, and then one with none.
+    #[tactic(auto, unfolding(crate::specs::View::slave_of, crate::specs::Steps::unread, rules_unit::specs::Slave::make, rules_unit::specs::Slave::make_number))]
     pub fn make(position: NodePosition, address: LogicalNodeAddress, pairs: &[u8]) -> UnitMade
         ensures { (result.number ≡ make_number pairs.now)
             × (slave_of result.unit ≡ make position.0 address.0 pairs.now) × Counted result.unit }
@@ -94,6 +96,7 @@ impl NetworkSlave {
     }
 
     // An order of this pass is read, and the answers are gone.
+    #[tactic(auto, unfolding(crate::specs::View::slave_of, crate::specs::Steps::emptied_on))]
     fn empty(&mut self, pass: u32)
         ensures { Becomes self.old (emptied_on pass (slave_of self.old)) self.new }
     {
@@ -102,6 +105,7 @@ impl NetworkSlave {
     }
 
     // An order of this pass is read: the answers are gone where the last one had another pass.
+    #[tactic(auto, unfolding(crate::specs::View::slave_of, crate::specs::Steps::emptied_on, crate::specs::Steps::on_pass))]
     fn meet(&mut self, pass: u32)
         ensures { Becomes self.old (on_pass pass (slave_of self.old)) self.new }
     {
@@ -120,6 +124,7 @@ impl NetworkSlave {
     }
 
     // A SET is obeyed.
+    #[tactic(auto, unfolding(crate::specs::View::slave_of, crate::specs::Steps::with_pairs))]
     fn renumber(&mut self, block: u8, old: u8, new: u8)
         ensures { Becomes self.old (with_pairs (renumbered block old new (slave_of self.old).pairs) (slave_of self.old)) self.new }
     {
@@ -128,6 +133,7 @@ impl NetworkSlave {
 
     // The ANSWER, at the start of `out`; how many bytes it has is handed back. By value: behind a reference the proof does not know how
     // long the arrays of the pairs are.
+    #[tactic(auto, unfolding(crate::specs::View::slave_of, rules_unit::specs::Slave::answer_of))]
     fn answer(self, out: &mut [u8]) -> usize
         requires { min_answer_room ≤ length out.old }
         ensures { Wrote out.old 0 (answer_of self.pass (slave_of self)) result out.new }
@@ -220,6 +226,7 @@ impl NetworkSlave {
     }
 
     // The answer of a look-up for this pair is kept; a refusal hands back the very unit.
+    #[tactic(auto, unfolding(crate::specs::View::slave_of, crate::specs::Steps::is_refusal, rules_unit::specs::Slave::learn, rules_unit::specs::Slave::with_known, unit_answers::specs::View::known_in))]
     pub fn learn(self, pair: Pair, answer: Result<Place, Refusal>) -> NetworkSlave
         ensures { (slave_of result ≡ learn (pair_in pair) (lookup_of answer) (slave_of self)) × (Counted self → Counted result)
             × (is_refusal (lookup_of answer) ≡ true → result ≡ self) }

@@ -15,7 +15,3 @@ write_answer-requires c =
     let u = c.args.self in
     let p = u.pairs in
     omega (arith, answer_fits u.pass (slave_of u) (omega (arith, pairs_length max_pairs p.blocks p.numbers (search rules) (search rules) p.count)), c.requires)
-
-pub returns : goal.returns
-unfolding answer_of slave_of
-returns c = c.write_answer.ensures

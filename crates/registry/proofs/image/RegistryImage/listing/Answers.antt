@@ -1,8 +1,16 @@
 -- Of the entries of the ring.
+use Prim.Native.Nat.{◌≤◌}
+use lib.ListN.{length}
+use mathlib.Core.List.{List}
+use mathlib.Core.Path.{◌≡◌, subst}
+use Rattle.ring_listing.specs.View.{flat_of}
 use Rattle.registry.specs.View.{view_of}
-use Rattle.rules.specs.Listing.{listing}
+use Rattle.rules.specs.House.{max_entries}
+use Rattle.rules.specs.Listing.{entries_from, listing}
+use Rattle.rules.specs.Picture.{Row}
 use Rattle.registry.proofs.image.RegistryImage.listing.Goals as goal
 
 pub returns : goal.returns
 unfolding view_of listing
-returns c = c.listing_of.ensures
+returns c =
+    subst (λ (rs : List Row). (c.listing_of.result ≡ flat_of (entries_from 1 rs)) × (length (entries_from 1 rs) ≤ max_entries)) c.ring.ensures.rows c.listing_of.ensures

@@ -1,15 +1,17 @@
 -- The state first.
 use Rattle.registry.specs.View.{view_of}
-use Rattle.rules.specs.Listing.{listing, look_up}
-use mathlib.Core.Path.{◌∙◌, sym}
+use Rattle.rules.specs.Listing.{entries_from, first_of, listing, look_up}
+use Rattle.rules.specs.Picture.{Row}
+use Rattle.wire_pairs.specs.View.{pair_in}
+use mathlib.Core.List.{List}
+use mathlib.Core.Path.{◌∙◌, ap, sym}
 use Rattle.registry.proofs.image.RegistryImage.look_up.Goals as goal
 
-pub returns-then-is_ok : goal.returns-then-is_ok
-unfolding view_of look_up listing
-returns-then-is_ok c =
-    simp (sym c.is_ok.ensures ∙ c.if-is_ok.true) c.find.ensures
+pub returns-then-not-is_ok : goal.returns-then-not-is_ok
+unfolding view_of look_up
+returns-then-not-is_ok c = simp (sym c.is_ok.ensures ∙ c.if-not-is_ok.true)
 
 pub returns : goal.returns
-unfolding view_of look_up
+unfolding view_of look_up listing
 returns c =
-    simp (sym c.is_ok.ensures ∙ c.if-is_ok.false)
+    simp (sym c.is_ok.ensures ∙ c.if-not-is_ok.false) (c.find.ensures ∙ ap (λ (rs : List Row). first_of (pair_in c.args.pair) (entries_from 1 rs)) c.ring.ensures.rows)

@@ -1,6 +1,7 @@
 -- 9; in OK what `rescan` does; else NOTOK and new entries that are scanned.
 use Prim.Native.Nat.{◌-◌, ◌≤◌}
-use Rattle.registry.proofs.Doing.{along, refuses}
+use Rattle.registry.proofs.Doing.{along, refuses_with}
+use Rattle.numbers.specs.declared.Refusal.TheVariants as refusals
 use Rattle.registry.proofs.Scanning.{begins, first_room, notok_room, notok_wrote, rescans_not, rescans_notok, rescans_ok, second_room}
 use Rattle.registry.specs.Outcome.{rescan_outcome}
 use Rattle.registry.specs.View.{view_of}
@@ -20,7 +21,7 @@ use Rattle.registry.proofs.image.RegistryImage.network_change.Goals as goal
 pub returns-then-self-ge-MAX_PASS : goal.returns-then-self-ge-MAX_PASS
 unfolding view_of
 returns-then-self-ge-MAX_PASS c =
-    refuses c.args.out.now 9 (rescans_not (view_of c.args.self) c.args.nodes c.if-self-ge-MAX_PASS.true) c.refuse.ensures
+    refuses_with c.args.out.now refusals.NoPassLeft (rescans_not (view_of c.args.self) c.args.nodes c.if-self-ge-MAX_PASS.true)
 
 pub rescan-requires : goal.rescan-requires
 unfolding view_of
@@ -55,7 +56,7 @@ scan-requires c =
     let wanted : Outcome = concluded came (respond came (NCE c.args.nodes)) in
     let new_rows : List Row = replicate (c.args.nodes - 1) new_row in
     let in-notok : wanted ≡ concluded came (change (scan (NOTOK ∷ []) new_rows came)) = rescans_notok _ _ c.if-self-ge-MAX_PASS.false c.is_ok.ensures c.if-is_ok.false in
-    let left : with_rows (rows_of (c.args.nodes - 1) c.new_entries-entries.result) came ≡ with_rows new_rows came = ap (λ (rs : List Row). with_rows rs came) (c.new_entries-entries.ensures.0 (c.args.nodes - 1) (omega (arith, c.requires.1))) in
+    let left : with_rows (rows_of (c.args.nodes - 1) c.new_entries-self.result) came ≡ with_rows new_rows came = ap (λ (rs : List Row). with_rows rs came) (c.new_entries-self.ensures.0 (c.args.nodes - 1) (omega (arith, c.requires.1))) in
     (c.if-self-ge-MAX_PASS.false, second_room came (NOTOK ∷ []) new_rows in-notok left c.args.out.now (notok_wrote c.args.self.pass (add-one c.args.self.pass) c.write_notice-at.ensures) c.requires.3)
 
 pub returns : goal.returns
@@ -65,6 +66,6 @@ returns c =
     let wanted : Outcome = concluded came (respond came (NCE c.args.nodes)) in
     let new_rows : List Row = replicate (c.args.nodes - 1) new_row in
     let in-notok : wanted ≡ concluded came (change (scan (NOTOK ∷ []) new_rows came)) = rescans_notok _ _ c.if-self-ge-MAX_PASS.false c.is_ok.ensures c.if-is_ok.false in
-    let left : with_rows (rows_of (c.args.nodes - 1) c.new_entries-entries.result) came ≡ with_rows new_rows came = ap (λ (rs : List Row). with_rows rs came) (c.new_entries-entries.ensures.0 (c.args.nodes - 1) (omega (arith, c.requires.1))) in
+    let left : with_rows (rows_of (c.args.nodes - 1) c.new_entries-self.result) came ≡ with_rows new_rows came = ap (λ (rs : List Row). with_rows rs came) (c.new_entries-self.ensures.0 (c.args.nodes - 1) (omega (arith, c.requires.1))) in
     begins came (NOTOK ∷ []) new_rows in-notok left c.args.out.now (notok_wrote c.args.self.pass (add-one c.args.self.pass) c.write_notice-at.ensures) c.scan.ensures.0
-    (λ m. c.scan.ensures.1 (record { state = m.state; delay = m.delay; units = omega (arith, c.requires.1); entries = c.new_entries-entries.ensures.1 }))
+    (λ m. c.scan.ensures.1 (record { state = m.state; delay = m.delay; units = omega (arith, c.requires.1); entries = c.new_entries-self.ensures.1 }))

@@ -11,7 +11,8 @@ use row_entry::NodeEntry;
 use wire_address::NodePosition;
 use wire_orders::write_ask;
 
-// The entries that are asked: those whose question is open, or the SILENT ones.
+// The entries that are asked: those whose question is open, or the SILENT ones. No closure: the contracts name the two tests by `which_of`,
+// and a clause for any test would be longer.
 #[derive(Clone, Copy)]
 pub enum Which {
     Open,

@@ -1,7 +1,6 @@
 -- From answers to their numbers: what a function ensures of its answer, told as numbers.
 use Prim.Native.Nat.{ℕ}
 use mathlib.Core.Path.{◌≡◌, refl, ap, ◌∙◌}
-use mathlib.Core.Bool.{Bool, true, false, cond}
 use mathlib.Core.List.{List}
 use Rattle.rules.specs.Telegram as rules
 use Rattle.tel_join_state.specs.declared.Reassembly.{Reassembly}

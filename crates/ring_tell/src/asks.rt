@@ -11,8 +11,8 @@ use row_entry::NodeEntry;
 use wire_address::NodePosition;
 use wire_orders::write_ask;
 
-// The entries that are asked: those whose question is open, or the SILENT ones. No closure: the contracts name the two tests by `which_of`,
-// and a clause for any test would be longer.
+// The entries that are asked: those whose question is open, or the SILENT ones. A name, and no closure: the clauses say by it which rows
+// are asked, where a closure would need the rules' test beside it.
 #[derive(Clone, Copy)]
 pub enum Which {
     Open,

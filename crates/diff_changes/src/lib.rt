@@ -59,7 +59,7 @@ fn seen_pairs(seat: Option<NodeRow>) -> Pairs
     }
 }
 
-// The address in a seat; 0 where there is no row.
+// The address in a seat; 0 where there is no row, as the contract's `seen_address` has it.
 #[tactic(auto, unfolding(diff_rows::specs::Gathering::seen_in, crate::specs::Changes::seen_address))]
 pub fn seen_address(seat: Option<NodeRow>) -> LogicalNodeAddress
     ensures { result.0 ≡ seen_address (seen_in seat) }

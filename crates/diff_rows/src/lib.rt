@@ -14,7 +14,7 @@ use wire_address::NodePosition;
 use wire_pairs::Pairs;
 
 // What a list of rows has at each position: position p has seats[p - 1]. A bad row came; the positions did not rise; the last position that
-// a row was seated at, 0 before the first.
+// a row was seated at, 0 before the first, as `nothing_seen` has it.
 #[derive(Clone, Copy)]
 pub struct Rows {
     pub seats: [Option<NodeRow>; MAX_UNITS],

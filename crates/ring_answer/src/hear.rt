@@ -75,9 +75,7 @@ pub fn hear(
     ensures { Hears (seat_at (map row_of entries.now) (suc seat)) address.0 (pairs_of announced.now) result × (All Marked entries.now → Marked result.next) }
 {
     let entry = entries[seat];
-    let ring = beside(entries, seat);
-    let others = &ring[..entries.len()];
-    let seen = survey::survey_of(others, address, announced);
+    let seen = survey::survey_of(entries, seat, address, announced);
     let verdict = seen.claims.verdict(&entry, address);
     match verdict {
         Verdict::Barred => unrenumbered(verdict, entry.ignored(address)),
@@ -88,6 +86,8 @@ pub fn hear(
             let step = if kept.len() == announced.len() {
                 None
             } else {
+                let ring = beside(entries, seat);
+                let others = &ring[..entries.len()];
                 renumber::renumber_from(others, announced, &good, entry.place(), entry.tries())
             };
             Heard {

@@ -21,7 +21,7 @@ pub struct Place {
 }
 
 // The number given back, 0 where the pair is listed, and the place, zeros beside a refusal.
-// C interface: a number beside the place.
+// C interface: a number beside the place, as LookupOutcome has them.
 #[tactic(auto, unfolding(rules::specs::Listing::lookup_number, rules::specs::Listing::lookup_position, rules::specs::Listing::lookup_address))]
 pub fn number_and_place(answer: Result<Place, Refusal>) -> (u8, Place)
     ensures { (result.0 ≡ lookup_number (lookup_of answer)) × (result.1.position.0 ≡ lookup_position (lookup_of answer))

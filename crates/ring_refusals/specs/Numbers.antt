@@ -1,4 +1,4 @@
--- The number that an event is refused with, 2 to 8, and 0 where it is not.
+-- The number of a refusal: 2 for bytes that are no event, 3 to 8 for an event, and 0 where none of these refuses it.
 use Rattle.std.specs.Prelude.{ℕ, ◌-◌, min, cond, not, ◌&&◌, eqb, ltb, None, Some}
 use Rattle.std.specs.Prelude as std
 use Rattle.std.proofs.Math.Option.{Option, none, some}

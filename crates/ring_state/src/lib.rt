@@ -6,6 +6,7 @@ ghost use Rattle.rules.specs.Picture.{is_ok};
 ghost use Rattle.ring_state.specs.State.{state_of};
 
 // The registry's state by its number.
+// C interface: a number.
 #[repr(C)]
 #[derive(Clone, Copy)]
 pub struct RegistryState(pub u8);
@@ -30,6 +31,7 @@ impl RegistryState {
 }
 
 // Whether a delay runs, by its number.
+// C interface: a number.
 #[repr(C)]
 #[derive(Clone, Copy)]
 pub struct CfgDelay(pub u8);

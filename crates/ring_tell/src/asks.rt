@@ -11,7 +11,8 @@ use row_entry::NodeEntry;
 use wire_address::NodePosition;
 use wire_orders::write_ask;
 
-// The entries that are asked: those whose question is open, or the SILENT ones.
+// The entries that are asked: those whose question is open, or the SILENT ones. A name, and no closure: the clauses say by it which rows
+// are asked, where a closure would need the rules' test beside it.
 #[derive(Clone, Copy)]
 pub enum Which {
     Open,

@@ -12,7 +12,7 @@ use row_entry::NodeEntry;
 use wire_orders::{Delta, write_delta};
 use wire_pairs::Pairs;
 
-// The pairs that an entry newly keeps, or no longer keeps.
+// The pairs that an entry newly keeps, or no longer keeps. No closure: the order is written with its kind.
 #[tactic(auto, unfolding(rules::specs::Ending::gained, rules::specs::Ending::lost))]
 fn changes(delta: Delta, before: &NodeEntry, after: &NodeEntry) -> Pairs
     ensures { pairs_of result ≡ changes_of delta (row_of before.now) (row_of after.now) }

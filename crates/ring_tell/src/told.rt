@@ -58,7 +58,8 @@ pub fn tell_entries(
     changes::write_changes(out, at, pass, Delta::New, size, before, after)
 }
 
-// What a ring change in OK asks and tells: the ASKs for the entries, and INVALID for the pairs listed so far, which stand in two slices.
+// What a ring change in OK asks and tells: the ASKs for the entries, and INVALID for the pairs listed so far, which stand in two
+// slices, as C's Listing holds them.
 pub fn tell_ring_change(
     out: &mut [u8],
     pass: u32,

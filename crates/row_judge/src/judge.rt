@@ -21,7 +21,7 @@ fn is_good(held: bool, announced: &Pairs, earlier: usize, pair: Pair) -> bool
         && !announced.first(earlier).holds(pair)
 }
 
-// The announced pairs judged in order: a mark for each good one.
+// The announced pairs judged in order: a mark for each good one. The marks stand beside the pairs, as `judged_of` speaks of them.
 pub fn judge(held: &[bool; MAX_PAIRS], announced: &Pairs) -> [bool; MAX_PAIRS]
     ensures { judged_of (pairs_of announced.now) result ≡ judge_marked held.now [] (pairs_of announced.now) }
 {
@@ -32,7 +32,7 @@ pub fn judge(held: &[bool; MAX_PAIRS], announced: &Pairs) -> [bool; MAX_PAIRS]
     good
 }
 
-// The good ones of the announced pairs.
+// The good ones of the announced pairs, whose marks stand beside them, as `judged_of` speaks of them.
 pub fn good_pairs(announced: &Pairs, good: &[bool; MAX_PAIRS]) -> Pairs
     ensures { pairs_of result ≡ goods (judged_of (pairs_of announced.now) good.now) }
 {

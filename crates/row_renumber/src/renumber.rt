@@ -65,7 +65,7 @@ fn attempt(
     }
 }
 
-// From the place on: the first bad pair that is offered a number.
+// From the place on: the first bad pair that is offered a number. The marks stand beside the pairs, as `judged_of` speaks of them.
 pub fn renumber_from(
     entries: &[NodeEntry],
     announced: &Pairs,

@@ -1,18 +1,18 @@
 -- Orders as bytes: what a few stores write, and the bytes of an order that lists pairs.
-use Prim.Native.Nat.{ℕ, ◌+◌, ◌*◌, ◌≤◌, ◌<◌, min}
+use Prim.Native.Nat.{ℕ, ◌+◌, ◌*◌, ◌≤◌, min}
 use mathlib.Core.Path.{◌≡◌, refl, sym, ◌∙◌, ap}
 use mathlib.Core.List.{List, [], ◌∷◌, ◌++◌, append-nil}
 use native.Mathlib.Numerals.{towards_suc}
 use native.Mathlib.Omega.{arith}
-use lib.ListN.{length, get_or, set, drop, drop_of_length-le}
+use lib.ListN.{length, set}
 use lib.Seq.{sets}
-use Rattle.laws.specs.Buffers.{Wrote, wrote_append, wrote_along}
+use Rattle.laws.specs.Buffers.{Wrote, Owes, wrote_append, wrote_along}
 use Rattle.laws.specs.Lists.{collect}
 use Rattle.rules.specs.Picture.{Pair}
 use Rattle.rules.specs.Event.{two, four, pair_bytes}
 use Rattle.rules.specs.Order.{Order, kind_of, body_of, encode}
 use Rattle.wire_pairs.specs.View.{pair_of, zip_pairs}
-use Rattle.wire_pairs.proofs.Arrays.{zip_here, zip_short}
+use Rattle.wire_pairs.proofs.Arrays.{zip_short}
 use Rattle.wire_orders.specs.View.{notice_of, delta_of, head_bytes, head_size, pair_size, list_size}
 use Rattle.wire_orders.specs.declared.Notice.{Notice}
 use Rattle.wire_orders.specs.declared.Notice.TheVariants as notices
@@ -101,13 +101,24 @@ pairs_size (a ∷ rest) = let e = pairs_size rest in omega arith
 pub delta_length : (pass : ℕ) (d : Delta) (ps : List Pair) → length (encode pass (delta_of d ps)) ≡ list_size (length ps)
 delta_length pass d ps = omega (arith, order_length_lem pass (delta_of d ps), ap length (delta_body d ps), pairs_size ps)
 
--- pairs of two slices: one turn of writing those from i on, and the end
-module _ (bs ns : List ℕ) where
-  pub pairs_on : (i : ℕ) → i < min (length bs) (length ns)
-      → collect pair_bytes (drop i (zip_pairs bs ns)) ≡ (get_or bs i 0 ∷ get_or ns i 0 ∷ []) ++ collect pair_bytes (drop (i + 1) (zip_pairs bs ns))
-  unfolding collect pair_bytes pair_of
-  pairs_on i h = ap (collect pair_bytes) (zip_here bs ns i (omega arith) (omega arith))
+-- pairs of two slices: one turn of writing them, and the end, where either has none left
+pub pairs_on : {bs ns bs' ns' : List ℕ} {b n : ℕ} → bs ≡ b ∷ bs' → ns ≡ n ∷ ns'
+    → collect pair_bytes (zip_pairs bs ns) ≡ (b ∷ n ∷ []) ++ collect pair_bytes (zip_pairs bs' ns')
+unfolding collect pair_bytes pair_of zip_pairs
+pairs_on e f = λ t. collect pair_bytes (zip_pairs (e t) (f t))
 
-  pub pairs_end : (i : ℕ) → min (length bs) (length ns) ≤ i → collect pair_bytes (drop i (zip_pairs bs ns)) ≡ []
-  unfolding collect
-  pairs_end i h = ap (collect pair_bytes) (drop_of_length-le (zip_pairs bs ns) {i = i} (omega (arith, zip_short bs ns)))
+pub pairs_end : {bs : List ℕ} (ns : List ℕ) → bs ≡ [] → collect pair_bytes (zip_pairs bs ns) ≡ []
+unfolding collect zip_pairs
+pairs_end ns e = ap (λ (l : List ℕ). collect pair_bytes (zip_pairs l ns)) e
+
+pub pairs_end_other : (bs : List ℕ) {ns : List ℕ} → ns ≡ [] → collect pair_bytes (zip_pairs bs ns) ≡ []
+unfolding collect zip_pairs
+pairs_end_other [] e = refl
+pairs_end_other (b ∷ bs) e = ap (λ (l : List ℕ). collect pair_bytes (zip_pairs (b ∷ bs) l)) e
+
+-- room for a pair, where pairs are owed
+pub pairs_room : {d c : List ℕ} {at i l : ℕ} {bs ns bs' ns' : List ℕ} {b n : ℕ} (blocks numbers : List ℕ) → at + pair_size * min (length blocks) (length numbers) ≤ l
+    → length c ≡ l → bs ≡ b ∷ bs' → ns ≡ n ∷ ns' → Owes d at (collect pair_bytes (zip_pairs blocks numbers)) i c (collect pair_bytes (zip_pairs bs ns))
+    → i + 2 ≤ length c
+pairs_room blocks numbers h k e f w =
+    omega (arith, w.place, ap length (pairs_on e f), pairs_size (zip_pairs blocks numbers), zip_short blocks numbers, h, k)

@@ -1,4 +1,5 @@
-// Orders: each written into a lent buffer from a place on. The place behind it is handed back, since the next order is written there.
+// Orders: each written into a lent buffer from a place on. The place behind it is handed back, since the next order is written
+// there and `Wrote` speaks of it.
 #![tactic(auto)]
 
 ghost use Rattle.std.specs.Prelude.{◌≡◌, ◌+◌, ◌*◌, ◌≤◌, ◌<◌, min, [], length};
@@ -90,14 +91,16 @@ fn write_head(out: &mut [u8], at: usize, kind: u8, pass: u32) -> usize
 }
 
 // The kind of a notice.
-fn notice_kind(notice: Notice) -> u8
-    ensures { result ≡ kind_of (notice_of notice) }
-{
-    match notice {
-        Notice::Ok => OK,
-        Notice::NotOk => NOTOK,
-        Notice::WaitShort => WAIT_SHORT,
-        Notice::WaitLong => WAIT_LONG,
+impl From<Notice> for u8 {
+    ghost from_gives = { λ notice k. k ≡ kind_of (notice_of notice) };
+
+    fn from(notice: Notice) -> u8 {
+        match notice {
+            Notice::Ok => OK,
+            Notice::NotOk => NOTOK,
+            Notice::WaitShort => WAIT_SHORT,
+            Notice::WaitLong => WAIT_LONG,
+        }
     }
 }
 
@@ -106,7 +109,7 @@ pub fn write_notice(out: &mut [u8], at: usize, pass: u32, notice: Notice) -> usi
     requires { at + length (encode pass (notice_of notice)) ≤ length out.old }
     ensures { Wrote out.old at (encode pass (notice_of notice)) result out.new }
 {
-    write_head(out, at, notice_kind(notice), pass)
+    write_head(out, at, u8::from(notice), pass)
 }
 
 // ASK: a question goes by position.
@@ -143,24 +146,26 @@ pub fn write_set(
 }
 
 // The kind of an order that lists pairs.
-fn delta_kind(delta: Delta) -> u8
-    ensures { result ≡ kind_of (delta_of delta []) }
-{
-    match delta {
-        Delta::New => NEW,
-        Delta::Invalid => INVALID,
+impl From<Delta> for u8 {
+    ghost from_gives = { λ delta k. k ≡ kind_of (delta_of delta []) };
+
+    fn from(delta: Delta) -> u8 {
+        match delta {
+            Delta::New => NEW,
+            Delta::Invalid => INVALID,
+        }
     }
 }
 
-// The bytes of the pairs of two slices.
+// The bytes of the pairs of two slices: C's Listing and Pairs hold blocks and numbers so.
 pub fn write_pairs(out: &mut [u8], at: usize, blocks: &[u8], numbers: &[u8]) -> usize
     requires { at + pair_size * min (length blocks.now) (length numbers.now) ≤ length out.old }
     ensures { Wrote out.old at (collect pair_bytes (zip_pairs blocks.now numbers.now)) result out.new }
 {
     let mut end = at;
-    for i in 0..blocks.len().min(numbers.len()) {
-        out[end] = blocks[i];
-        out[end + 1] = numbers[i];
+    for (block, number) in blocks.iter().zip(numbers) {
+        out[end] = *block;
+        out[end + 1] = *number;
         end += PAIR;
     }
     end
@@ -178,7 +183,7 @@ fn write_part(
     requires { (min (length blocks.now) (length numbers.now) < 256) × (at + list_size (min (length blocks.now) (length numbers.now)) ≤ length out.old) }
     ensures { Wrote out.old at (encode pass (delta_of delta (zip_pairs blocks.now numbers.now))) result out.new }
 {
-    let body = write_head(out, at, delta_kind(delta), pass);
+    let body = write_head(out, at, u8::from(delta), pass);
     out[body] = blocks.len().min(numbers.len()) as u8;
     write_pairs(out, body + COUNT, blocks, numbers)
 }

@@ -10,4 +10,4 @@ write_head-requires c =
 
 pub returns : goal.returns
 returns c =
-    wrote_notice c.args.pass c.args.notice c.notice_kind.ensures c.write_head.ensures
+    wrote_notice c.args.pass c.args.notice c.from.ensures c.write_head.ensures

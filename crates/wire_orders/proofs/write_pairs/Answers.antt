@@ -1,26 +1,40 @@
 -- At every turn the pairs that are left, written from here on, make the whole.
-use Rattle.laws.specs.Buffers.{owes_end, owes_on, owes_start}
-use Rattle.wire_orders.proofs.Bytes.{pairs_end, pairs_on, wrote_two}
-use lib.ListN.{get_or, length-set}
-use mathlib.Core.List.{[], ◌∷◌}
-use mathlib.Core.Path.{refl}
+use Rattle.laws.specs.Buffers.{owes_end, owes_on}
+use Rattle.std.proofs.lemmas.List.{nil_from_length}
+use Rattle.wire_orders.proofs.Bytes.{pairs_end, pairs_end_other, pairs_on, pairs_room, wrote_two}
+use lib.ListN.{length-set}
+use mathlib.Core.Logic.{inl, inr}
 use native.Mathlib.Omega.{arith}
 use Rattle.wire_orders.proofs.write_pairs.Goals as goal
 
-pub loop-i-init : goal.loop-i-init
-loop-i-init c = record { length = refl; place = omega arith; owes = owes_start _ _ _ }
+pub bounds-out-end : goal.bounds-out-end
+bounds-out-end c =
+    omega (arith, pairs_room c.args.blocks.now c.args.numbers.now c.requires c.loop-block.invariant.0 c.in-Some.ensures.steps.0 c.in-Some.ensures.steps.1 c.loop-block.invariant.1)
 
-pub loop-i-preserved : goal.loop-i-preserved
-loop-i-preserved c =
-    let w = c.loop-i.invariant in
-    let i = c.loop-i.i in
-    let bs = c.args.blocks.now in
-    let ns = c.args.numbers.now in
-    record {
-      length = simp length-set w.length;
-      place = omega arith;
-      owes = owes_on (get_or bs i 0 ∷ get_or ns i 0 ∷ []) (pairs_on bs ns i (omega arith)) (wrote_two _ _ _ _) w.owes;
-    }
+pub overflow_add-out : goal.overflow_add-out
+overflow_add-out c =
+    omega (arith, pairs_room c.args.blocks.now c.args.numbers.now c.requires c.loop-block.invariant.0 c.in-Some.ensures.steps.0 c.in-Some.ensures.steps.1 c.loop-block.invariant.1)
+
+pub bounds-out-end-in-loop-block : goal.bounds-out-end-in-loop-block
+bounds-out-end-in-loop-block c =
+    omega (arith, pairs_room c.args.blocks.now c.args.numbers.now c.requires c.loop-block.invariant.0 c.in-Some.ensures.steps.0 c.in-Some.ensures.steps.1 c.loop-block.invariant.1, length-set c.loop-block.out c.loop-block.end c.in-Some.block.now)
+
+pub overflow_add-end : goal.overflow_add-end
+overflow_add-end c =
+    omega (arith, pairs_room c.args.blocks.now c.args.numbers.now c.requires c.loop-block.invariant.0 c.in-Some.ensures.steps.0 c.in-Some.ensures.steps.1 c.loop-block.invariant.1)
+
+pub loop-block-preserved : goal.loop-block-preserved
+loop-block-preserved c =
+    let w = c.loop-block.invariant in
+    let s = c.in-Some.ensures.steps in
+    (simp length-set w.0, owes_on _ (pairs_on s.0 s.1) (wrote_two _ _ _ _) w.1)
 
 pub returns : goal.returns
-returns c = owes_end (pairs_end c.args.blocks.now c.args.numbers.now c.loop-i.i (omega arith)) c.loop-i.invariant.owes
+returns c =
+    let it = c.loop-block.block-iterator in
+    owes_end
+    (elim c.in-None.ensures.steps [
+      | inl e ↦ pairs_end it.b.rest.now (nil_from_length it.a.rest.now e.1.0)
+      | inr e ↦ pairs_end_other it.a.rest.now (nil_from_length it.b.rest.now e.1.0)
+    ])
+    c.loop-block.invariant.1

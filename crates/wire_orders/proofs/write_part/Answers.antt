@@ -27,4 +27,4 @@ pub returns : goal.returns
 returns c =
     let bs = c.args.blocks.now in
     let ns = c.args.numbers.now in
-    wrote_delta c.args.pass _ c.args.delta (zip_pairs bs ns) c.delta_kind.ensures (c.min.ensures ∙ sym (zip_short bs ns)) c.write_head-body.ensures c.write_pairs.ensures
+    wrote_delta c.args.pass _ c.args.delta (zip_pairs bs ns) c.from.ensures (c.min.ensures ∙ sym (zip_short bs ns)) c.write_head-body.ensures c.write_pairs.ensures

@@ -30,7 +30,7 @@ returns-in-Barred c =
     let i = c.args.seat in
     let l = c.requires.1 in
     let w = c.survey_of-seen.ensures in
-    let found = verdict_found es i l c.beside-ring.ensures _ c.args.address.0 w.barred w.kept c.verdict-verdict.ensures in
+    let found = verdict_found es i l refl _ c.args.address.0 w.barred w.kept c.verdict-verdict.ensures in
     let u = c.unrenumbered.ensures in
     let v = sym (ap verdict_of c.in-Barred.is) ∙ found in (
       hears (ap verdict_of u.0 ∙ ap verdict_of c.in-Barred.is) v (ap row_of u.1 ∙ c.ignored.ensures.0 ∙ ap (ignored c.args.address.0) (seat_own i es l _)) u.2,
@@ -47,7 +47,7 @@ returns-in-Outside c =
     let ps : List Pair = pairs_of c.args.announced.now in
     let taken = seat_at (map row_of es) (suc i) in
     let w = c.survey_of-seen.ensures in
-    let found = verdict_found es i l c.beside-ring.ensures _ a w.barred w.kept c.verdict-verdict.ensures in
+    let found = verdict_found es i l refl _ a w.barred w.kept c.verdict-verdict.ensures in
     let u = c.unrenumbered-in-Outside.ensures in
     let own = seat_own i es l _ in
     let heard : (v : Verdict) → verdict_of c.verdict-verdict.result ≡ v → row_after v taken a ps ≡ taken.row → step_after v taken ps ≡ finished
@@ -69,10 +69,10 @@ returns-after-len c =
     let w = c.survey_of-seen.ensures in
     let ps : List Pair = pairs_of c.args.announced.now in
     let taken = seat_at (map row_of es) (suc i) in
-    let found = verdict_found es i l c.beside-ring.ensures _ c.args.address.0 w.barred w.kept c.verdict-verdict.ensures in
+    let found = verdict_found es i l refl _ c.args.address.0 w.barred w.kept c.verdict-verdict.ensures in
     let v = sym (ap verdict_of c.in-Fine.is) ∙ found in
     let own = seat_own i es l _ in
-    let elsewhere = pairs_elsewhere es i l c.beside-ring.ensures in
+    let elsewhere = pairs_elsewhere es i l refl in
     let held = w.held ∙ ap (λ (el : List Pair). held_by el ps) elsewhere in
     let few : length ps ≤ max_pairs = omega (arith, c.len-in-Fine.ensures) in
     let good = c.judge-good.result in
@@ -87,7 +87,7 @@ returns-after-len c =
           ∙ set_for taken ps few good c.survey_of-seen.result.held held c.judge-good.ensures
           (w.renumber_from-step.ensures
           ∙ (λ t.
-          renumber (free_number (elsewhere t) ps) ((w.place.ensures ∙ ap (λ (r : Row). place_of r.status) own) t)
+          renumber (free_number (pairs_elsewhere es i l w.beside-ring.ensures t) ps) ((w.place.ensures ∙ ap (λ (r : Row). place_of r.status) own) t)
           ((w.tries.ensures ∙ ap (λ (r : Row). tries_of r.status) own) t) (judged_of ps good)))
     ] in
     (hears (ap verdict_of c.in-Fine.is) v (row_for taken ps c.args.address.0 own kept step c.registered.ensures.0) step, λ m. c.registered.ensures.1)

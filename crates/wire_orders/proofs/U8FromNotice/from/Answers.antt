@@ -1,7 +1,7 @@
 -- By the notice.
 use Rattle.rules.specs.Order.{kind_of}
 use mathlib.Core.Path.{refl}
-use Rattle.wire_orders.proofs.notice_kind.Goals as goal
+use Rattle.wire_orders.proofs.U8FromNotice.from.Goals as goal
 
 pub returns-in-Ok : goal.returns-in-Ok
 unfolding kind_of

@@ -1,7 +1,7 @@
 -- By the order.
 use Rattle.rules.specs.Order.{kind_of}
 use mathlib.Core.Path.{refl}
-use Rattle.wire_orders.proofs.delta_kind.Goals as goal
+use Rattle.wire_orders.proofs.U8FromDelta.from.Goals as goal
 
 pub returns-in-New : goal.returns-in-New
 unfolding kind_of

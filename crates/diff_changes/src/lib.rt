@@ -34,7 +34,7 @@ pub enum LineKind {
 }
 
 impl LineKind {
-    // The number that a line begins with.
+    // The number that a line begins with, by the name that papers and rules have for it.
     pub fn number(self) -> u8
         ensures { result ≡ number_of self }
     {

@@ -76,7 +76,7 @@ pub enum Refusal {
 }
 
 impl Refusal {
-    // The number given back.
+    // The number given back, by the name that the papers have for it. C has it as a constant, so each is one here.
     pub fn number(self) -> u8
         ensures { result ≡ number_of self }
     {

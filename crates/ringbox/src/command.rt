@@ -2,6 +2,7 @@
 use super::lists::Which;
 use text_arguments::{Arguments, Reason};
 use text_words::words;
+use wire_pairs::Pair;
 
 // The longest record that a line can hold, and the most order room, which is lent at the start.
 pub const MAX_RECORD: usize = 8192;
@@ -22,10 +23,7 @@ pub enum Command {
     Record(usize),
     State,
     Listing,
-    LookUp {
-        block: u8,
-        number: u8,
-    },
+    LookUp(Pair),
     Rows,
     TakeRows(Which),
     NoRows(Which),
@@ -87,10 +85,10 @@ fn look_up(mut arguments: Arguments) -> Result<Command, Reason> {
     let block = arguments.hex(BYTE_DIGITS)?;
     let number = arguments.hex(BYTE_DIGITS)?;
     arguments.end()?;
-    Ok(Command::LookUp {
+    Ok(Command::LookUp(Pair {
         block: block as u8,
         number: number as u8,
-    })
+    }))
 }
 
 fn offered(mut arguments: Arguments, record: &mut [u8]) -> Result<Command, Reason> {

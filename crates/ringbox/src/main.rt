@@ -66,12 +66,12 @@ fn offer(picture: &mut RegistryImage, output: &mut Output, record: &[u8], lent: 
 }
 
 // A look-up in its normal form, and where the pair is listed.
-fn look_up(picture: &RegistryImage, output: &mut Output, block: u8, number: u8) {
+fn look_up(picture: &RegistryImage, output: &mut Output, pair: Pair) {
     output.form(
         b"lookup %b %b\n",
-        &[usize::from(block), usize::from(number)],
+        &[usize::from(pair.block), usize::from(pair.number)],
     );
-    show::found(output, picture.look_up(Pair { block, number }));
+    show::found(output, picture.look_up(pair));
 }
 
 impl Bench for RingBox {
@@ -106,7 +106,7 @@ impl Bench for RingBox {
             }
             Command::State => show::state(output, &self.picture),
             Command::Listing => show::listing(output, &self.picture),
-            Command::LookUp { block, number } => look_up(&self.picture, output, block, number),
+            Command::LookUp(pair) => look_up(&self.picture, output, pair),
             Command::Rows => show::rows(output, &self.picture),
             Command::TakeRows(which) => self.lists.take(output, which, &self.picture),
             Command::NoRows(which) => self.lists.clear(output, which),

@@ -13,7 +13,7 @@ ghost use Rattle.tel_cut.specs.Parts.{part_id};
 use numbers::Refusal;
 use tel_head::{COUNTER, HEAD, TelId};
 
-// The only telegram of a message up to L, or 12 or 13.
+// The only telegram of a message up to L, or 12 or 13. What is cut comes as C passes it, one by one.
 fn cut_single(
     l: usize,
     msg_id: u32,

@@ -9,6 +9,7 @@ ghost use Rattle.tel_head.specs.Allowed.{Allows};
 ghost use Rattle.tel_head.specs.Kinds.{tel_id_number, Reads};
 
 use numbers::Refusal;
+use wire_octets::octet;
 
 // MsgID, TelID and TelLen.
 pub const HEAD: usize = 6;
@@ -26,7 +27,7 @@ pub enum TelId {
 }
 
 impl TelId {
-    // The number in a head.
+    // The number in a head, by the name that papers and rules have for it.
     pub fn number(self) -> u32
         ensures { (result ≡ tel_id_number self) × (result < 4) }
     {
@@ -88,13 +89,6 @@ pub fn write_head(buffer: &mut [u8], msg_id: u32, tel_id: u32, tel_len: u32)
     wire_octets::write4(buffer, 0, msg_id);
     buffer[4] = pack(tel_id, tel_len);
     buffer[5] = wire_octets::low(tel_len);
-}
-
-// The byte at a place, 0 behind the end.
-fn octet(bytes: &[u8], at: usize) -> u8
-    ensures { result ≡ get_or bytes.now at 0 }
-{
-    bytes.get(at).copied().unwrap_or(0)
 }
 
 // The MsgID of a telegram.

@@ -31,7 +31,7 @@ struct Desk {
 // How many characters `join` and the blank behind it have.
 const JOIN_MARK: usize = 5;
 
-// The high half of a MsgID, and the low half.
+// The high half of a MsgID, and the low half: `%w` of a template takes two bytes.
 fn high(msg_id: u32) -> usize {
     (msg_id / 65536) as usize
 }

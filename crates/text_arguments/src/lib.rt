@@ -123,6 +123,7 @@ impl<'a> Arguments<'a> {
     {
         let mut rest = *self;
         let mut count = 0;
+        // The cursor goes on, and no index.
         while let Some(group) = rest.word() {
             whole_bytes(group)?;
             count = store(group, bytes, count);

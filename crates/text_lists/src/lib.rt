@@ -70,6 +70,7 @@ pub fn pairs(arguments: &mut Arguments, bytes: &mut [u8]) -> Result<usize, Reaso
 {
     let mut rest = *arguments;
     let mut count = 0;
+    // The cursor goes on, and no index.
     while let Some(word) = rest.word() {
         taken_as_pair(word, count)?;
         store(word, bytes, 2 * count);

@@ -30,7 +30,7 @@ pub enum Layout {
 fn kind_of(bytes: &[u8]) -> u8
     ensures { result ≡ get_or bytes.now 2 0 }
 {
-    bytes.get(KIND).copied().unwrap_or(0)
+    wire_octets::octet(bytes, KIND)
 }
 
 // A blank stands after mark, kind and pass.

@@ -1,6 +1,7 @@
 // The commands of a unit's script.
 use text_arguments::{Arguments, Reason};
 use text_words::words;
+use wire_pairs::Pair;
 
 // The longest order that a line can hold, and the most room that is lent.
 pub const MAX_ORDER: usize = 8192;
@@ -23,8 +24,7 @@ pub enum Command {
     Room(usize),
     Order(usize),
     Found {
-        block: u8,
-        number: u8,
+        pair: Pair,
         address: u16,
     },
     Known,
@@ -32,7 +32,8 @@ pub enum Command {
     Myself,
 }
 
-// A command that takes no argument more.
+// A command that takes no argument more. `bare` and `room` are ringbox's over other commands: one for both would be handed the command by
+// a closure, and read no plainer.
 fn bare(arguments: Arguments, command: Command) -> Result<Command, Reason> {
     arguments.end()?;
     Ok(command)
@@ -59,8 +60,10 @@ fn found(mut arguments: Arguments) -> Result<Command, Reason> {
     let address = arguments.hex(ADDRESS_DIGITS)?;
     arguments.end()?;
     Ok(Command::Found {
-        block: block as u8,
-        number: number as u8,
+        pair: Pair {
+            block: block as u8,
+            number: number as u8,
+        },
         address: address as u16,
     })
 }

@@ -70,12 +70,12 @@ fn offer(unit: &mut NetworkSlave, output: &mut Output, order: &[u8], out: &mut [
 }
 
 // A look-up was answered.
-fn found(unit: &mut NetworkSlave, output: &mut Output, block: u8, number: u8, address: u16) {
+fn found(unit: &mut NetworkSlave, output: &mut Output, pair: Pair, address: u16) {
     output.form(
         b"found %b %b %w\n",
         &[
-            usize::from(block),
-            usize::from(number),
+            usize::from(pair.block),
+            usize::from(pair.number),
             usize::from(address),
         ],
     );
@@ -83,7 +83,7 @@ fn found(unit: &mut NetworkSlave, output: &mut Output, block: u8, number: u8, ad
         position: NodePosition(0),
         address: LogicalNodeAddress(address),
     };
-    *unit = unit.learn(Pair { block, number }, Ok(place));
+    *unit = unit.learn(pair, Ok(place));
 }
 
 impl Bench for UnitBench {
@@ -124,11 +124,7 @@ impl Bench for UnitBench {
                 let lent = &mut self.out[..];
                 offer(&mut self.unit, output, order, &mut lent[..room]);
             }
-            Command::Found {
-                block,
-                number,
-                address,
-            } => found(&mut self.unit, output, block, number, address),
+            Command::Found { pair, address } => found(&mut self.unit, output, pair, address),
             Command::Known => show::known(output, &self.unit.known),
             Command::List => show::list(output, &self.unit.pairs),
             Command::Myself => show::myself(output, &self.unit),

@@ -32,7 +32,8 @@ fn stands_besides(pairs: &Pairs, place: usize, pair: Pair) -> bool
     pairs.first(place).holds(pair) || pairs.holds_from(place + 1, pair)
 }
 
-// The first pair of that block with the old number gets the new one, if there is one and no other pair of the block has the new.
+// The first pair of that block with the old number gets the new one, if there is one and no other pair of the block has the new. Block, old
+// and new number come one by one, as the rules' SET has them.
 pub fn renumber(pairs: &mut Pairs, block: u8, old: u8, new: u8)
     ensures { (pairs_of pairs.new ≡ renumbered block old new (pairs_of pairs.old)) × (pairs.new.count ≡ pairs.old.count) }
 {

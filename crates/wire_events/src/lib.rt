@@ -94,7 +94,8 @@ fn are_unused(pass: u32, x: u8) -> bool
     pass == 0 && x == 0
 }
 
-// An event of eight bytes, by its kind, its pass and its x.
+// An event of eight bytes, by its kind, its pass and its x. A kind is matched as the byte that it is: an enum of kinds beside `Event` would
+// name each event twice.
 fn decode_plain(kind: u8, pass: u32, x: u8) -> Option<Event>
     ensures { event_in result ≡ decode_plain kind pass x }
 {

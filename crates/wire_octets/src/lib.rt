@@ -1,9 +1,16 @@
 // Numbers as bytes, the highest byte first.
 #![tactic(auto)]
 
-ghost use Rattle.std.specs.Prelude.{◌≡◌, ◌+◌, ◌*◌, ◌%◌, ◌≤◌, ◌<◌, length};
+ghost use Rattle.std.specs.Prelude.{◌≡◌, ◌+◌, ◌*◌, ◌%◌, ◌≤◌, ◌<◌, length, get_or};
 ghost use Rattle.std.proofs.lemmas.List.Edits.{sets};
 ghost use Rattle.rules.specs.Event.{be4, two, four};
+
+// The byte at a place; 0 behind the end.
+pub fn octet(bytes: &[u8], at: usize) -> u8
+    ensures { result ≡ get_or bytes.now at 0 }
+{
+    bytes.get(at).copied().unwrap_or(0)
+}
 
 // The last byte of a number.
 pub fn low(n: u32) -> u8

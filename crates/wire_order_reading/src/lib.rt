@@ -6,6 +6,7 @@ ghost use Rattle.rules_unit.specs.Reading.{length_by, order_length, order_by, de
 ghost use Rattle.wire_order_reading.specs.View.{order_of, order_in, set_in, record_in};
 
 use wire_address::{LogicalNodeAddress, NodePosition};
+use wire_octets::octet;
 use wire_orders::{
     ASK, ASK_BODY, COUNT, HEAD, INVALID, KIND, MARK_FIRST, MARK_SECOND, NEW, NOTOK, OK, PASS, SET,
     SET_ADDRESS, SET_BLOCK, SET_BODY, SET_NEW, SET_OLD, WAIT_LONG, WAIT_SHORT,
@@ -41,14 +42,8 @@ pub struct OrderRecord {
     pub order: Order,
 }
 
-// The byte at a place; 0 behind the end.
-fn byte_at(bytes: &[u8], at: usize) -> u8
-    ensures { result ≡ get_or bytes.now at 0 }
-{
-    bytes.get(at).copied().unwrap_or(0)
-}
-
-// How long an order is, by its kind and by the count behind its pass.
+// How long an order is, by its kind and by the count behind its pass. A kind is matched as the byte that it is: an enum of kinds beside
+// `Order` would name each order twice.
 fn length_by(kind: u8, count: u8) -> usize
     ensures { result ≡ length_by kind count }
 {
@@ -64,7 +59,7 @@ fn length_by(kind: u8, count: u8) -> usize
 pub fn order_length(bytes: &[u8]) -> usize
     ensures { result ≡ order_length bytes.now }
 {
-    length_by(byte_at(bytes, KIND), byte_at(bytes, HEAD))
+    length_by(octet(bytes, KIND), octet(bytes, HEAD))
 }
 
 // A SET: where the unit sits, its address, and what it is to renumber.
@@ -72,14 +67,14 @@ fn set_in(bytes: &[u8]) -> Order
     ensures { order_of result bytes.now ≡ set_in bytes.now }
 {
     let address = HEAD + SET_ADDRESS;
-    let high = byte_at(bytes, address);
-    let low = byte_at(bytes, address + 1);
+    let high = octet(bytes, address);
+    let low = octet(bytes, address + 1);
     Order::Set {
-        position: NodePosition(byte_at(bytes, HEAD)),
+        position: NodePosition(octet(bytes, HEAD)),
         address: LogicalNodeAddress(wire_octets::word(high, low) as u16),
-        block: byte_at(bytes, HEAD + SET_BLOCK),
-        old: byte_at(bytes, HEAD + SET_OLD),
-        new: byte_at(bytes, HEAD + SET_NEW),
+        block: octet(bytes, HEAD + SET_BLOCK),
+        old: octet(bytes, HEAD + SET_OLD),
+        new: octet(bytes, HEAD + SET_NEW),
     }
 }
 
@@ -88,7 +83,7 @@ fn order_by(kind: u8, bytes: &[u8]) -> Option<Order>
     ensures { order_in result bytes.now ≡ order_by kind bytes.now }
 {
     match kind {
-        ASK => Some(Order::Ask(NodePosition(byte_at(bytes, HEAD)))),
+        ASK => Some(Order::Ask(NodePosition(octet(bytes, HEAD)))),
         SET => Some(set_in(bytes)),
         OK => Some(Order::Ok),
         NOTOK => Some(Order::NotOk),

@@ -122,7 +122,8 @@ pub fn write_ask(out: &mut [u8], at: usize, pass: u32, position: NodePosition) -
     body + ASK_BODY
 }
 
-// SET: a renumbering goes by address; the position says where the unit sits.
+// SET: a renumbering goes by address; the position says where the unit sits. Its fields come one by one, as the rules' SET has them, and
+// position and address as two types, which paper 01 keeps apart.
 pub fn write_set(
     out: &mut [u8],
     at: usize,

@@ -10,7 +10,7 @@ use Rattle.wire_order_reading.proofs.order_by.Goals as goal
 
 pub returns-in-1 : goal.returns-in-1
 unfolding order_by
-returns-in-1 c = rw c.in-1.is (ap (λ (x : ℕ). some (ASK x)) c.byte_at.ensures)
+returns-in-1 c = rw c.in-1.is (ap (λ (x : ℕ). some (ASK x)) c.octet.ensures)
 
 pub returns-in-2 : goal.returns-in-2
 unfolding order_by

@@ -8,5 +8,5 @@ use Rattle.wire_order_reading.proofs.set_in.Goals as goal
 pub returns : goal.returns
 unfolding be2
 returns c =
-    let address = c.word.ensures.0 ∙ (λ t. c.byte_at-high.ensures t * 256 + c.byte_at-low.ensures t) in
-    λ t. SET (c.byte_at.ensures t) (address t) (c.byte_at-2.ensures t) (c.byte_at-3.ensures t) (c.byte_at-4.ensures t)
+    let address = c.word.ensures.0 ∙ (λ t. c.octet-high.ensures t * 256 + c.octet-low.ensures t) in
+    λ t. SET (c.octet.ensures t) (address t) (c.octet-2.ensures t) (c.octet-3.ensures t) (c.octet-4.ensures t)

@@ -4,9 +4,9 @@ use mathlib.Core.Path.{◌≡◌, refl, sym, ◌∙◌, ap, subst}
 use mathlib.Core.List.{List, [], ◌∷◌, ◌++◌, map}
 use native.Mathlib.Nat.{not-suc-le-zero}
 use native.Mathlib.Omega.{arith}
-use lib.ListN.{length, length-append, take, drop, length-drop, length-take}
-use lib.Seq.{drop-drop}
-use Rattle.laws.specs.Buffers.{Wrote, Owes, owes_on, wrote_along}
+use lib.ListN.{length, length-append, take, drop, length-drop}
+use Rattle.std.proofs.Math.Seq.{take-append_seam, drop-append_seam}
+use Rattle.laws.specs.Buffers.{Wrote, Owes, owes_on}
 use Rattle.laws.specs.Lists.{collect}
 use Rattle.rules.specs.Picture.{Pair}
 use Rattle.rules.specs.Order.{Order, encode, encode_all}
@@ -59,71 +59,41 @@ pub owes_room : {b c : List ℕ} {at i l : ℕ} {whole xs : List ℕ} (part rest
 owes_room part rest e w h = let f = length-append part rest in let g = ap length e in omega (arith, w.place)
 
 module _ (pass : ℕ) where
-  -- orders that list pairs: as many pairs as fit, and those behind them; none for no pairs
+  -- no order for no pairs
   module _ (order : List Pair → Order) (size : ℕ) where
-    tell_on : (n : ℕ) (ps : List Pair) → 3 ≤ size → 0 < length ps → n ≡ min ((size - 1) / 2) (length ps)
-        → encode_all pass (tell order size ps) ≡ encode pass (order (take n ps)) ++ encode_all pass (tell order size (drop n ps))
-    unfolding tell encode_all collect
-    tell_on n ps s h e =
-        let cap = (size - 1) / 2 in
-        let c : 1 ≤ (size - 1) / 2 = omega arith in
-        ap (λ (l : List (List Pair)). encode_all pass (map order l)) (packed_on cap ps c h)
-        ∙ (λ t. encode pass (order ((take_min cap ps ∙ ap (λ (k : ℕ). take k ps) (sym e)) t)) ++ encode_all pass (tell order size ((drop_min cap ps ∙ ap (λ (k : ℕ). drop k ps) (sym e)) t)))
-
-    tell_next : (n i : ℕ) (ps : List Pair) → 3 ≤ size → i < length ps → n ≡ min ((size - 1) / 2) (length ps - i)
-        → encode_all pass (tell order size (drop i ps)) ≡ encode pass (order (take n (drop i ps))) ++ encode_all pass (tell order size (drop (i + n) ps))
-    tell_next n i ps s h e =
-        let l = length-drop i ps in
-        tell_on n (drop i ps) s (omega arith) (rw l e) ∙ ap (λ (qs : List Pair). encode pass (order (take n (drop i ps))) ++ encode_all pass (tell order size qs)) (drop-drop n i ps)
-
-    pub tell_room : {b c : List ℕ} {at j l : ℕ} {whole : List ℕ} (n i : ℕ) (ps : List Pair) → 3 ≤ size → i < length ps
-        → n ≡ min ((size - 1) / 2) (length ps - i) → Owes b at whole j c (encode_all pass (tell order size (drop i ps))) → at + length whole ≤ l
-        → j + length (encode pass (order (take n (drop i ps)))) ≤ l
-    tell_room n i ps s h e =
-        owes_room (encode pass (order (take n (drop i ps)))) (encode_all pass (tell order size (drop (i + n) ps))) (tell_next n i ps s h e)
-
-    pub tell_turn : {b c d : List ℕ} {at j k : ℕ} {whole : List ℕ} (n i : ℕ) (ps : List Pair) → 3 ≤ size → i < length ps
-        → n ≡ min ((size - 1) / 2) (length ps - i) → Wrote c j (encode pass (order (take n (drop i ps)))) k d
-        → Owes b at whole j c (encode_all pass (tell order size (drop i ps))) → Owes b at whole k d (encode_all pass (tell order size (drop (i + n) ps)))
-    tell_turn n i ps s h e = owes_on (encode pass (order (take n (drop i ps)))) (tell_next n i ps s h e)
-
     pub tell_end : {ps : List Pair} → ps ≡ [] → encode_all pass (tell order size ps) ≡ []
     unfolding tell packed encode_all collect
     tell_end e = ap (λ (l : List Pair). encode_all pass (tell order size l)) e
 
--- pairs of two slices: n of those held, from i on, as many as fit or all that are left, are one order
-module _ (pass : ℕ) (d : Delta) (size : ℕ) (bs ns : List ℕ) (held i n : ℕ) (s : 3 ≤ size) (g : held ≡ min (length bs) (length ns)) (h : i < held)
-    (e : n ≡ min ((size - 1) / 2) (held - i)) where
-  -- the pairs, how many they are, and the part that the order lists
-  abbrev pairs : List Pair
-  pairs = zip_pairs bs ns
+-- a chunk off the front of a list
+chunk_take : {A : Type 0} (n : ℕ) {xs : List A} (x r : List A) → xs ≡ x ++ r → length x ≡ min n (length xs) → take n xs ≡ x
+chunk_take n {xs} x r e h = take_min n xs ∙ (λ t. take (sym h t) (e t)) ∙ take-append_seam x r
 
-  all : length pairs ≡ held
-  all = zip_short bs ns ∙ sym g
+chunk_drop : {A : Type 0} (n : ℕ) {xs : List A} (x r : List A) → xs ≡ x ++ r → length x ≡ min n (length xs) → drop n xs ≡ r
+chunk_drop n {xs} x r e h = drop_min n xs ∙ (λ t. drop (sym h t) (e t)) ∙ drop-append_seam x r
 
-  many : (xs : List ℕ) → held ≤ length xs → length (take ((i + n) - i) (drop i xs)) ≡ n
-  many xs l = omega (arith, length-take ((i + n) - i) (drop i xs), length-drop i xs)
+-- pairs of two slices, by chunks of them: one order, and those behind it
+module _ (pass : ℕ) (d : Delta) (size : ℕ) (s : 3 ≤ size) {bs ns : List ℕ} (x y bs' ns' : List ℕ) (k m : ℕ) (ek : k ≡ (size - 1) / 2) (em : m ≡ (size - 1) / 2)
+    (eb : bs ≡ x ++ bs') (lx : length x ≡ min k (length bs)) (pb : 0 < length bs)
+    (en : ns ≡ y ++ ns') (ly : length y ≡ min m (length ns)) (pn : 0 < length ns) where
+  chunk_on : encode_all pass (tell (delta_of d) size (zip_pairs bs ns)) ≡ encode pass (delta_of d (zip_pairs x y)) ++ encode_all pass (tell (delta_of d) size (zip_pairs bs' ns'))
+  unfolding tell encode_all collect
+  chunk_on =
+      let c : 1 ≤ (size - 1) / 2 = omega arith in
+      let lx : length x ≡ min ((size - 1) / 2) (length bs) = lx ∙ ap (λ (j : ℕ). min j (length bs)) ek in
+      let ly : length y ≡ min ((size - 1) / 2) (length ns) = ly ∙ ap (λ (j : ℕ). min j (length ns)) em in
+      let front : take ((size - 1) / 2) (zip_pairs bs ns) ≡ zip_pairs x y = sym (zip_take ((size - 1) / 2) bs ns) ∙ (λ t. zip_pairs (chunk_take ((size - 1) / 2) x bs' eb lx t) (chunk_take ((size - 1) / 2) y ns' en ly t)) in
+      let behind : drop ((size - 1) / 2) (zip_pairs bs ns) ≡ zip_pairs bs' ns' = sym (zip_drop ((size - 1) / 2) bs ns) ∙ (λ t. zip_pairs (chunk_drop ((size - 1) / 2) x bs' eb lx t) (chunk_drop ((size - 1) / 2) y ns' en ly t)) in
+      ap (λ (l : List (List Pair)). encode_all pass (map (delta_of d) l)) (packed_on ((size - 1) / 2) (zip_pairs bs ns) c (omega (arith, zip_short bs ns, pb, pn)))
+      ∙ (λ t. encode pass (delta_of d (front t)) ++ encode_all pass (tell (delta_of d) size (behind t)))
 
-  pub part_size : min (length (take ((i + n) - i) (drop i bs))) (length (take ((i + n) - i) (drop i ns))) ≡ n
-  part_size = omega (arith, many bs (omega arith), many ns (omega arith))
+  pub chunk_room : {b f : List ℕ} {at j l : ℕ} {whole : List ℕ} → Owes b at whole j f (encode_all pass (tell (delta_of d) size (zip_pairs bs ns)))
+      → at + length whole ≤ l → j + list_size (min (length x) (length y)) ≤ l
+  chunk_room {j = j} {l = l} w h =
+      subst (λ (n : ℕ). j + n ≤ l) (delta_length pass d (zip_pairs x y) ∙ ap list_size (zip_short x y))
+      (owes_room (encode pass (delta_of d (zip_pairs x y))) (encode_all pass (tell (delta_of d) size (zip_pairs bs' ns'))) chunk_on w h)
 
-  same : zip_pairs (take ((i + n) - i) (drop i bs)) (take ((i + n) - i) (drop i ns)) ≡ take n (drop i pairs)
-  same =
-      let k : (i + n) - i ≡ n = omega arith in
-      rw k (zip_take n (drop i bs) (drop i ns) ∙ ap (take n) (zip_drop i bs ns))
-
-  -- how long the order is
-  size_of : length (encode pass (delta_of d (take n (drop i pairs)))) ≡ list_size n
-  size_of = delta_length pass d (take n (drop i pairs)) ∙ ap list_size (omega (arith, length-take n (drop i pairs), length-drop i pairs, all))
-
-  -- room for it, and the pairs behind it still owed
-  pub part_room : {b f : List ℕ} {at j l : ℕ} {whole : List ℕ} → Owes b at whole j f (encode_all pass (tell (delta_of d) size (drop i pairs)))
-      → at + length whole ≤ l → j + list_size n ≤ l
-  part_room {j = j} {l = l} w k = subst (λ (m : ℕ). j + m ≤ l) size_of (tell_room pass (delta_of d) size n i pairs s (rw all h) (rw all e) w k)
-
-  pub part_turn : {b f g : List ℕ} {at j k : ℕ} {whole : List ℕ}
-      → Wrote f j (encode pass (delta_of d (zip_pairs (take ((i + n) - i) (drop i bs)) (take ((i + n) - i) (drop i ns))))) k g
-      → Owes b at whole j f (encode_all pass (tell (delta_of d) size (drop i pairs)))
-      → Owes b at whole k g (encode_all pass (tell (delta_of d) size (drop (i + n) pairs)))
-  part_turn v =
-      tell_turn pass (delta_of d) size n i pairs s (rw all h) (rw all e) (wrote_along (ap (λ (ps : List Pair). encode pass (delta_of d ps)) same) v)
+  pub chunk_turn : {b f g : List ℕ} {at j i : ℕ} {whole : List ℕ} → Wrote f j (encode pass (delta_of d (zip_pairs x y))) i g
+      → Owes b at whole j f (encode_all pass (tell (delta_of d) size (zip_pairs bs ns)))
+      → Owes b at whole i g (encode_all pass (tell (delta_of d) size (zip_pairs bs' ns')))
+  chunk_turn = owes_on (encode pass (delta_of d (zip_pairs x y))) chunk_on

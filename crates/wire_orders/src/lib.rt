@@ -205,14 +205,9 @@ pub fn write_deltas(
         (encode_all pass (tell (delta_of delta) size (zip_pairs blocks.now numbers.now))) result out.new }
 {
     let most = (size as usize - COUNT) / PAIR;
-    let held = blocks.len().min(numbers.len());
     let mut end = at;
-    let mut from = 0;
-    // No `for`: a turn goes on by as many pairs as its order lists, fewer in the last.
-    while from < held {
-        let to = from + most.min(held - from);
-        end = write_part(out, end, pass, delta, &blocks[from..to], &numbers[from..to]);
-        from = to;
+    for (blocks, numbers) in blocks.chunks(most).zip(numbers.chunks(most)) {
+        end = write_part(out, end, pass, delta, blocks, numbers);
     }
     end
 }

@@ -1,36 +1,38 @@
 -- At every turn the orders for the pairs that are left, written from here on, make the whole.
-use Rattle.laws.specs.Buffers.{owes_end, owes_start}
+use Rattle.laws.specs.Buffers.{owes_end}
+use Rattle.std.proofs.lemmas.List.{nil_from_length}
+use Rattle.std.specs.Slice.Iter.{chunks_rest}
 use Rattle.wire_pairs.specs.View.{zip_pairs}
-use Rattle.wire_pairs.proofs.Arrays.{zip_short, none_past}
-use Rattle.wire_orders.proofs.Tellings.{part_room, part_size, part_turn, tell_end}
+use Rattle.wire_pairs.proofs.Arrays.{zip_short}
+use Rattle.wire_orders.proofs.Tellings.{chunk_room, chunk_turn, tell_end}
 use Rattle.wire_orders.specs.View.{delta_of}
-use mathlib.Core.Path.{◌∙◌, refl}
+use mathlib.Core.Logic.{inl, inr}
+use mathlib.Core.Path.{◌∙◌}
 use native.Mathlib.Omega.{arith}
 use Rattle.wire_orders.proofs.write_deltas.Goals as goal
 
-pub loop-from-init : goal.loop-from-init
-loop-from-init c = record { within = omega arith; length = refl; owes = owes_start _ _ _ }
-
 pub write_part-end-requires : goal.write_part-end-requires
 write_part-end-requires c =
-    let a = c.args in
-    let bs = a.blocks.now in
-    let ns = a.numbers.now in
-    let size = part_size a.pass a.delta a.size bs ns c.min-held.result c.loop-from.from c.min.result c.requires.0 c.min-held.ensures (omega arith) c.min.ensures in
-    let room = part_room a.pass a.delta a.size bs ns c.min-held.result c.loop-from.from c.min.result c.requires.0 c.min-held.ensures (omega arith) c.min.ensures c.loop-from.invariant.owes c.requires.1 in
-    (omega arith, omega arith)
+    let w = c.loop-blocks.invariant in
+    let a = c.in-Some.ensures.steps.0 in
+    let b = c.in-Some.ensures.steps.1 in
+    (omega (arith, a.1.1, w.1, c.ranges.size.fits), chunk_room c.args.pass c.args.delta c.args.size c.requires.0 _ _ _ _ _ _ w.1 w.2 a.1.0 a.1.1 a.1.2 b.1.0 b.1.1 b.1.2 w.3 (omega (arith, c.requires.1, w.0)))
 
-pub loop-from-preserved : goal.loop-from-preserved
-loop-from-preserved c =
-    let a = c.args in
-    let w = c.loop-from.invariant in
-    record {
-      within = omega arith;
-      length = c.write_part-end.auto.out ∙ w.length;
-      owes = part_turn a.pass a.delta a.size a.blocks.now a.numbers.now c.min-held.result c.loop-from.from c.min.result c.requires.0 c.min-held.ensures (omega arith) c.min.ensures c.write_part-end.ensures w.owes;
-    }
+pub loop-blocks-preserved : goal.loop-blocks-preserved
+loop-blocks-preserved c =
+    let w = c.loop-blocks.invariant in
+    let a = c.in-Some.ensures.steps.0 in
+    let b = c.in-Some.ensures.steps.1 in
+    (c.write_part-end.auto.out ∙ w.0, a.0 ∙ w.1, b.0 ∙ w.2, chunk_turn c.args.pass c.args.delta c.args.size c.requires.0 _ _ _ _ _ _ w.1 w.2 a.1.0 a.1.1 a.1.2 b.1.0 b.1.1 b.1.2 c.write_part-end.ensures w.3)
 
 pub returns : goal.returns
 returns c =
-    let a = c.args in
-    owes_end (tell_end a.pass (delta_of a.delta) a.size (none_past (zip_pairs a.blocks.now a.numbers.now) (zip_short a.blocks.now a.numbers.now) (omega arith))) c.loop-from.invariant.owes
+    let w = c.loop-blocks.invariant in
+    let bs = chunks_rest c.loop-blocks.blocks-iterator.a in
+    let ns = chunks_rest c.loop-blocks.blocks-iterator.b in
+    owes_end
+    (tell_end c.args.pass (delta_of c.args.delta) c.args.size (elim c.in-None.ensures.steps [
+      | inl e ↦ nil_from_length (zip_pairs bs ns) (omega (arith, zip_short bs ns, e.1.0))
+      | inr e ↦ nil_from_length (zip_pairs bs ns) (omega (arith, zip_short bs ns, e.1.0))
+    ]))
+    w.3

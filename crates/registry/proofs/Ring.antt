@@ -47,3 +47,7 @@ first_ones (suc k) (e ∷ es) = ap (λ (l : List NodeEntry). e ∷ l) (first_one
 
 pub ring_firsts : (k : ℕ) (es : List NodeEntry) → length es ≡ max_units → take (min k max_units) es ≡ firsts (λ (e : NodeEntry). e) k es
 ring_firsts k es full = sym (first_ones (min k max_units) es) ∙ firsts_min (λ (e : NodeEntry). e) k max_units es (omega arith)
+
+-- a ring has no entries behind those that it can have
+pub ring_whole : (k : ℕ) (es : List NodeEntry) → length es ≡ min k max_units → take max_units es ≡ es
+ring_whole k es h = take_all max_units es (omega (arith, h))

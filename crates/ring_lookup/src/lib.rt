@@ -1,7 +1,7 @@
 // Where a pair is listed.
 #![tactic(auto)]
 
-ghost use Rattle.std.specs.Prelude.{◌≡◌, ◌≤◌, map, length};
+ghost use Rattle.std.specs.Prelude.{◌≡◌, map, take};
 ghost use Rattle.rules.specs.House.{max_units};
 ghost use Rattle.rules.specs.Listing.{first_of, entries_from, lookup_number, lookup_position, lookup_address};
 ghost use Rattle.wire_pairs.specs.View.{pair_in};
@@ -39,12 +39,12 @@ pub fn number_and_place(answer: Result<Place, Refusal>) -> (u8, Place)
     }
 }
 
-// The first of the entries that keeps the pair, or 17.
+// The first of the entries that keeps the pair, or 17. The entries behind the 63 that a ring can have are not looked at.
 pub fn find(entries: &[NodeEntry], pair: Pair) -> Result<Place, Refusal>
-    requires { length entries.now ≤ max_units }
-    ensures { lookup_of result ≡ first_of (pair_in pair) (entries_from 1 (map row_of entries.now)) }
+    ensures { lookup_of result ≡ first_of (pair_in pair) (entries_from 1 (map row_of (take max_units entries.now))) }
 {
-    for (i, entry) in entries.iter().enumerate() {
+    let ring = &entries[..row_entry::clamp(entries.len())];
+    for (i, entry) in ring.iter().enumerate() {
         if entry.pairs().holds(pair) {
             return Ok(Place {
                 position: NodePosition(i as u8 + 1),

@@ -1,6 +1,7 @@
 // The commands of a ring script.
 use super::lists::Which;
 use text_arguments::{Arguments, Reason};
+use text_lists::RowWords;
 use text_words::words;
 use wire_pairs::Pair;
 
@@ -16,7 +17,7 @@ pub const MAX_DIFFERENCE_ROOM: usize = 20000;
 const BYTE_DIGITS: usize = 2;
 
 // A command with its arguments; the bytes of a record or of pairs stand in a buffer beside it.
-#[derive(Clone, Copy, PartialEq, Eq, Debug)]
+#[derive(Clone, Copy, PartialEq, Eq)]
 pub enum Command {
     Fresh(usize),
     Room(usize),
@@ -27,12 +28,7 @@ pub enum Command {
     Rows,
     TakeRows(Which),
     NoRows(Which),
-    Row {
-        which: Which,
-        position: u8,
-        address: u16,
-        pairs: usize,
-    },
+    Row { which: Which, row: RowWords },
     Compare(usize),
 }
 
@@ -63,12 +59,7 @@ fn compare(mut arguments: Arguments) -> Result<Command, Reason> {
 // A row for a list, and its pairs in `bytes`.
 fn row(arguments: Arguments, which: Which, bytes: &mut [u8]) -> Result<Command, Reason> {
     let row = text_lists::row(arguments, bytes)?;
-    Ok(Command::Row {
-        which,
-        position: row.position,
-        address: row.address,
-        pairs: row.pairs,
-    })
+    Ok(Command::Row { which, row })
 }
 
 // What a list is to be: the picture's rows, none, or with one row more.

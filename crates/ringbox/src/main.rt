@@ -110,14 +110,10 @@ impl Bench for RingBox {
             Command::Rows => show::rows(output, &self.picture),
             Command::TakeRows(which) => self.lists.take(output, which, &self.picture),
             Command::NoRows(which) => self.lists.clear(output, which),
-            Command::Row {
-                which,
-                position,
-                address,
-                pairs,
-            } => {
-                let named = &self.bytes[..PAIR * pairs.min(MAX_RECORD / PAIR)];
-                self.lists.add(output, which, position, address, named)?;
+            Command::Row { which, row } => {
+                let named = &self.bytes[..PAIR * row.pairs.min(MAX_RECORD / PAIR)];
+                self.lists
+                    .add(output, which, row.position, row.address, named)?;
             }
             Command::Compare(n) => {
                 let room = n.min(MAX_DIFFERENCE_ROOM);

@@ -1,5 +1,6 @@
 // The commands of a unit's script.
 use text_arguments::{Arguments, Reason};
+use text_lists::RowWords;
 use text_words::words;
 use wire_pairs::Pair;
 
@@ -14,19 +15,12 @@ const BYTE_DIGITS: usize = 2;
 const ADDRESS_DIGITS: usize = 4;
 
 // A command with its arguments; the bytes of an order or of pairs stand in a buffer beside it.
-#[derive(Clone, Copy, PartialEq, Eq, Debug)]
+#[derive(Clone, Copy, PartialEq, Eq)]
 pub enum Command {
-    Unit {
-        position: u8,
-        address: u16,
-        pairs: usize,
-    },
+    Unit(RowWords),
     Room(usize),
     Order(usize),
-    Found {
-        pair: Pair,
-        address: u16,
-    },
+    Found { pair: Pair, address: u16 },
     Known,
     List,
     Myself,
@@ -41,11 +35,7 @@ fn bare(arguments: Arguments, command: Command) -> Result<Command, Reason> {
 
 fn unit(arguments: Arguments, bytes: &mut [u8]) -> Result<Command, Reason> {
     let row = text_lists::row(arguments, bytes)?;
-    Ok(Command::Unit {
-        position: row.position,
-        address: row.address,
-        pairs: row.pairs,
-    })
+    Ok(Command::Unit(row))
 }
 
 fn room(mut arguments: Arguments) -> Result<Command, Reason> {

@@ -103,13 +103,9 @@ impl Bench for UnitBench {
 
     fn obey(&mut self, output: &mut Output, line: &[u8]) -> Result<(), Reason> {
         match command::parse(line, &mut self.bytes)? {
-            Command::Unit {
-                position,
-                address,
-                pairs,
-            } => {
-                let named = &self.bytes[..PAIR * pairs.min(MAX_ORDER / PAIR)];
-                self.unit = make(output, position, address, named);
+            Command::Unit(row) => {
+                let named = &self.bytes[..PAIR * row.pairs.min(MAX_ORDER / PAIR)];
+                self.unit = make(output, row.position, row.address, named);
             }
             Command::Room(n) => {
                 output.form(b"room %d\n", &[n]);

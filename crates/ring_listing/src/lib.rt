@@ -1,7 +1,7 @@
 // The whole listing, flat: by position and announced order.
 #![tactic(auto)]
 
-ghost use Rattle.std.specs.Prelude.{◌≡◌, ◌+◌, ◌<◌, ◌≤◌, List, [], ◌∷◌, ◌++◌, map, length};
+ghost use Rattle.std.specs.Prelude.{◌≡◌, ◌+◌, ◌<◌, ◌≤◌, List, [], ◌∷◌, ◌++◌, map, length, take};
 ghost use Rattle.rules.specs.House.{max_entries, max_pairs, max_units};
 ghost use Rattle.rules.specs.Picture.{kept_in};
 ghost use Rattle.rules.specs.Listing.{Entry, entry, entries_of, entries_from};
@@ -67,13 +67,14 @@ impl Listing {
     }
 }
 
-// The listing of the nodes; the first one has position 1.
+// The listing of the nodes; the first one has position 1. The nodes behind the 63 units that a ring can have are not listed.
 pub fn listing_of(nodes: &[NodeEntry]) -> Listing
-    requires { length nodes.now ≤ max_units }
-    ensures { (result ≡ flat_of (entries_from 1 (map row_of nodes.now))) × (length (entries_from 1 (map row_of nodes.now)) ≤ max_entries) }
+    ensures { (result ≡ flat_of (entries_from 1 (map row_of (take max_units nodes.now))))
+        × (length (entries_from 1 (map row_of (take max_units nodes.now))) ≤ max_entries) }
 {
+    let ring = &nodes[..row_entry::clamp(nodes.len())];
     let mut listing = Listing::none();
-    for (i, node) in nodes.iter().enumerate() {
+    for (i, node) in ring.iter().enumerate() {
         listing.list(NodePosition(i as u8 + 1), node);
     }
     listing

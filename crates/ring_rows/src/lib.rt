@@ -1,7 +1,7 @@
 // The listed rows of a ring picture, by position.
 #![tactic(auto)]
 
-ghost use Rattle.std.specs.Prelude.{◌≡◌, ◌≤◌, ◌<◌, ◌+◌, List, [], ◌∷◌, ◌++◌, map, length};
+ghost use Rattle.std.specs.Prelude.{◌≡◌, ◌<◌, ◌+◌, List, [], ◌∷◌, ◌++◌, map, take};
 ghost use Rattle.rules.specs.House.{max_units};
 ghost use Rattle.rules_diff.specs.Differences.{listed_rows_from};
 ghost use Rattle.row_entry.specs.View.{row_of};
@@ -44,13 +44,14 @@ impl ListedRows {
     }
 }
 
-// The rows of the LISTED and SETTING entries; the first entry has position 1.
+// The rows of the LISTED and SETTING entries; the first entry has position 1. The entries behind the 63 that a ring can have give none.
 pub fn rows_of(entries: &[NodeEntry]) -> ListedRows
-    requires { length entries.now ≤ max_units }
-    ensures { (result ≡ filled_rows (listed_entries 1 entries.now)) × (node_rows_in result ≡ listed_rows_from 1 (map row_of entries.now)) }
+    ensures { (result ≡ filled_rows (listed_entries 1 (take max_units entries.now)))
+        × (node_rows_in result ≡ listed_rows_from 1 (map row_of (take max_units entries.now))) }
 {
+    let ring = &entries[..row_entry::clamp(entries.len())];
     let mut listed = ListedRows::none();
-    for (i, entry) in entries.iter().enumerate() {
+    for (i, entry) in ring.iter().enumerate() {
         if entry.is_listed() {
             listed.push(NodeRow::of(NodePosition(i as u8 + 1), *entry));
         }

@@ -10,4 +10,4 @@ use Rattle.ring_listing.specs.View.{flat_of}
 use Rattle.ring_listing.proofs.listing_of.Given as goal
 
 abbrev pub invariant-loop-i : goal.invariant-loop-i
-invariant-loop-i l = (l.listing.count ≤ max_pairs * l.i) × (l.listing ≡ flat_of (entries_from 1 (map row_of (take l.i l.nodes))))
+invariant-loop-i l = (l.listing.count ≤ max_pairs * l.i) × (l.listing ≡ flat_of (entries_from 1 (map row_of (take l.i l.ring))))

@@ -3,4 +3,4 @@ use Rattle.ring_rows.proofs.Filling.{Filling}
 use Rattle.ring_rows.proofs.rows_of.Given as goal
 
 abbrev pub invariant-loop-i : goal.invariant-loop-i
-invariant-loop-i l = Filling l.entries l.i l.listed
+invariant-loop-i l = Filling l.ring l.i l.listed

@@ -16,10 +16,7 @@ use Rattle.rules.specs.Run.{Outcome, refused, taken, concluded, left, written, l
 use Rattle.registry.specs.declared.image.RegistryImage.{RegistryImage}
 use Rattle.registry.specs.declared.record.Recorded.{Recorded}
 use Rattle.registry.specs.View.{view_of}
-use Rattle.registry.specs.Outcome.{handed, expected, given, Does, Ends, Marks}
-use Rattle.std.specs.Prelude.{Err}
-use Rattle.numbers.specs.declared.Refusal.{Refusal}
-use Rattle.numbers.specs.Numbers as numbers
+use Rattle.registry.specs.Outcome.{handed, expected, Does, Ends, Marks}
 use Rattle.wire_orders.proofs.Writing.{orders_length, wrote_orders}
 
 -- the same outcome by another name
@@ -35,9 +32,6 @@ pub refuses : {came : RegistryImage} {o : Outcome} {r : Recorded} (b : List ℕ)
     → Does came o b r b
 unfolding handed expected left lent number_of written
 refuses b n e f = along e (record { outcome = (λ i. record { picture = view_of (f.2 i); number = f.0 i; length = f.1 i; buffer = b }); kept = λ m h. f.2; marks = subst Marks (sym f.2) })
-
-pub refuses_with : {came : RegistryImage} {o : Outcome} (b : List ℕ) (e : Refusal) → o ≡ refused (numbers.number_of e) → Does came o b (given came (Err e)) b
-refuses_with b e f = refuses b (numbers.number_of e) f (refl, refl, refl)
 
 -- what is handed back with a taken event
 pub takes : {came : RegistryImage} {r : Recorded} {b d : List ℕ} (p : Picture) (c : Change) → view_of r.picture ≡ ended c.picture

@@ -1,7 +1,6 @@
 -- A record on its way: what is known once its bytes are decoded, and what its own step comes to.
 use Prim.Native.Nat.{ℕ, ◌≤◌, min}
 use mathlib.Core.Option.{some}
-use Rattle.std.specs.Prelude.{Err}
 use Rattle.numbers.specs.declared.Refusal.{Refusal}
 use Rattle.numbers.specs.declared.Refusal.TheVariants as refusals
 use Rattle.numbers.specs.Numbers.{number_of}
@@ -21,11 +20,11 @@ use Rattle.std.proofs.lemmas.List.{length-map}
 use Rattle.rules.specs.Picture.{no_row, seat_at}
 use Rattle.rules.specs.Renumber.{finished}
 use Rattle.rules.specs.Step.{silenced}
-use Rattle.registry.proofs.Doing.{refuses_with}
+use Rattle.registry.proofs.Doing.{refuses}
 use Rattle.registry.proofs.Refusing.{answer_taken, none_taken, refused_late}
 use native.Mathlib.Omega.{arith}
 use Rattle.registry.proofs.Stepping.{fits, recorded, step_refused, step_taken, well_formed}
-use Rattle.registry.specs.Outcome.{Does, given, HandedOut, Seat, WellFormed, reply_outcome, respond_to}
+use Rattle.registry.specs.Outcome.{Does, HandedOut, Seat, WellFormed, reply_outcome, respond_to}
 use Rattle.registry.specs.View.{view_of}
 use Rattle.registry.specs.declared.image.RegistryImage.{RegistryImage}
 use Rattle.registry.specs.declared.record.Recorded.{Recorded}
@@ -89,9 +88,9 @@ module _ (r : Decoded) where
   formed e = subst (λ (f : Event). WellFormed (some (event_of f))) e (well_formed (view_of r.image) r.given (length r.lent) r.room r.decoded)
 
   -- a refusal
-  pub recorded_err : (e : Refusal) → outcome r ≡ refused (number_of e)
-      → Does r.image (outcome r) r.lent (given r.image (Err e)) r.lent × HandedOut (given r.image (Err e)).picture
-  recorded_err e w = recorded_at w (refuses_with r.lent e refl)
+  pub recorded_err : (e : Refusal) {s : Recorded} → outcome r ≡ refused (number_of e) → (s.number ≡ number_of e) × (s.length ≡ 0) × (s.picture ≡ r.image)
+      → Does r.image (outcome r) r.lent s r.lent × HandedOut s.picture
+  recorded_err e w h = recorded_at w (refuses r.lent (number_of e) refl h)
 
   -- 3 and 4
   pub table_step : (e : Refusal) → number_of e ≡ refusal_of (state_of r.image.state.0) (some (event_of r.event)) → outcome r ≡ refused (number_of e)

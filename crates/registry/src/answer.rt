@@ -6,7 +6,7 @@ ghost use Rattle.row_entry.specs.View.{row_of};
 ghost use Rattle.row_entry.specs.Marks.{Marked};
 ghost use Rattle.row_renumber.specs.Marks.{renumbering_of};
 ghost use Rattle.registry.specs.View.{view_of};
-ghost use Rattle.registry.specs.Outcome.{Does, given, Seat, reply_outcome, conflict_outcome, ignore_outcome, restart_outcome};
+ghost use Rattle.registry.specs.Outcome.{Does, Seat, reply_outcome, conflict_outcome, ignore_outcome, restart_outcome};
 ghost use Rattle.ring_entries.specs.Verdicts.{verdict_of};
 
 use super::image::RegistryImage;
@@ -102,18 +102,18 @@ impl RegistryImage {
         position: NodePosition,
         address: LogicalNodeAddress,
         verdict: Verdict,
-    ) -> Result<Recorded, Refusal>
+    ) -> Recorded
         requires { Seat self position.0 × (3 ≤ self.size)
             × (length (written (conflict_outcome (verdict_of verdict) (view_of self) position.0 address.0)) ≤ length out.old) }
-        ensures { Does self (conflict_outcome (verdict_of verdict) (view_of self) position.0 address.0) out.old (given self result) out.new }
+        ensures { Does self (conflict_outcome (verdict_of verdict) (view_of self) position.0 address.0) out.old result out.new }
     {
         let seat = position.0 as usize - 1;
         if limit::reaches_limit(self.ring(), seat, verdict, address) {
-            return Ok(self.ignore(out, position, address, verdict));
+            return self.ignore(out, position, address, verdict);
         }
         if MAX_PASS <= self.pass {
-            return Err(Refusal::NoPassLeft);
+            return self.refuse(Refusal::NoPassLeft);
         }
-        Ok(self.restart(out, position, address, verdict))
+        self.restart(out, position, address, verdict)
     }
 }

@@ -2,7 +2,8 @@
 ghost use Rattle.std.specs.Prelude.{◌≡◌, length};
 ghost use Rattle.rules.specs.Run.{step};
 ghost use Rattle.registry.specs.View.{view_of};
-ghost use Rattle.registry.specs.Outcome.{Does, given, HandedOut};
+ghost use Rattle.numbers.specs.Numbers.{number_of};
+ghost use Rattle.registry.specs.Outcome.{Does, HandedOut};
 
 use super::image::RegistryImage;
 use numbers::Refusal;
@@ -23,24 +24,42 @@ pub struct Recorded {
 }
 
 impl RegistryImage {
-    // One record, with its orders from the start of `out`; or 1 to 9.
-    fn take(self, bytes: &[u8], out: &mut [u8]) -> Result<Recorded, Refusal>
+    // A refusal: the very picture comes back. The steps hand back a `Recorded` each, and no `Result` of one, which would copy the picture
+    // once more.
+    pub(crate) fn refuse(self, refusal: Refusal) -> Recorded
+        ensures { (result.number ≡ number_of refusal) × (result.length ≡ 0) × (result.picture ≡ self) }
+    {
+        Recorded {
+            number: refusal.number(),
+            length: 0,
+            picture: self,
+        }
+    }
+
+    // Takes one record, and writes its orders from the start of `out`; or 1 to 9, which change nothing.
+    pub fn record(self, bytes: &[u8], out: &mut [u8]) -> Recorded
         requires { HandedOut self }
-        ensures { Does self (step (view_of self) bytes.now (length out.old)) out.old (given self result) out.new
-            × HandedOut (given self result).picture }
+        ensures { Does self (step (view_of self) bytes.now (length out.old)) out.old result out.new
+            × HandedOut result.picture }
     {
         if out.len() < MIN_ROOM {
-            return Err(Refusal::OrderRoomTooShort);
+            return self.refuse(Refusal::OrderRoomTooShort);
         }
         let Some(event) = wire_events::decode(bytes) else {
-            return Err(Refusal::RecordMalformed);
+            return self.refuse(Refusal::RecordMalformed);
         };
-        ring_refusals::refusal(self.state, &event)?;
-        ring_refusals::reply_refusal(self.state, self.pass, self.ring(), &event)?;
+        if let Err(refusal) = ring_refusals::refusal(self.state, &event) {
+            return self.refuse(refusal);
+        }
+        if let Err(late) =
+            ring_refusals::reply_refusal(self.state, self.pass, self.ring(), &event)
+        {
+            return self.refuse(late);
+        }
         match event {
             Event::Start(nodes) => self.start(out, nodes),
             Event::NetworkChange(nodes) => self.network_change(out, nodes),
-            Event::Shutdown => Ok(self.shut_down(out)),
+            Event::Shutdown => self.shut_down(out),
             Event::Answer {
                 position,
                 address,
@@ -52,29 +71,13 @@ impl RegistryImage {
                 if heard.verdict.conflicts() {
                     return self.conflict(out, position, address, heard.verdict);
                 }
-                Ok(self.reply(out, position, address, heard.next, heard.step))
+                self.reply(out, position, address, heard.next, heard.step)
             }
             Event::NoAnswer { position, .. } => {
                 let next = self.entries[position.0 as usize - 1].silenced();
-                Ok(self.reply(out, position, LogicalNodeAddress(0), next, None))
+                self.reply(out, position, LogicalNodeAddress(0), next, None)
             }
             Event::DelayExpired { pass } => self.delay_expired(out, pass),
-        }
-    }
-
-    // Takes one record, and writes its orders from the start of `out`; or 1 to 9, which change nothing.
-    pub fn record(self, bytes: &[u8], out: &mut [u8]) -> Recorded
-        requires { HandedOut self }
-        ensures { Does self (step (view_of self) bytes.now (length out.old)) out.old result out.new
-            × HandedOut result.picture }
-    {
-        match self.take(bytes, out) {
-            Ok(recorded) => recorded,
-            Err(refusal) => Recorded {
-                number: refusal.number(),
-                length: 0,
-                picture: self,
-            },
         }
     }
 }

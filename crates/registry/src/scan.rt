@@ -7,7 +7,7 @@ ghost use Rattle.rules.specs.Order.{encode_all};
 ghost use Rattle.rules.specs.Step.{respond};
 ghost use Rattle.rules.specs.Run.{concluded, written};
 ghost use Rattle.registry.specs.View.{view_of};
-ghost use Rattle.registry.specs.Outcome.{scan_orders, Scans, rescan_outcome, Does, given, Marks};
+ghost use Rattle.registry.specs.Outcome.{scan_orders, Scans, rescan_outcome, Does, Marks};
 
 use super::image;
 use super::image::RegistryImage;
@@ -35,17 +35,17 @@ impl RegistryImage {
     }
 
     // START: the ring has `nodes` nodes, and its units are asked.
-    pub(crate) fn start(mut self, out: &mut [u8], nodes: u8) -> Result<Recorded, Refusal>
+    pub(crate) fn start(mut self, out: &mut [u8], nodes: u8) -> Recorded
         requires { (1 ≤ nodes) × (nodes ≤ max_nodes)
             × (length (written (concluded (view_of self) (respond (view_of self) (START nodes)))) ≤ length out.old) }
-        ensures { Does self (concluded (view_of self) (respond (view_of self) (START nodes))) out.old (given self result) out.new }
+        ensures { Does self (concluded (view_of self) (respond (view_of self) (START nodes))) out.old result out.new }
     {
         if MAX_PASS <= self.pass {
-            return Err(Refusal::NoPassLeft);
+            return self.refuse(Refusal::NoPassLeft);
         }
         self.units = nodes - 1;
         self.entries = image::new_entries();
-        Ok(self.scan(out, 0))
+        self.scan(out, 0)
     }
 
     // NCE in OK: OK stays. The new units are asked, every pair listed so far is told INVALID, and a running delay ends.
@@ -71,21 +71,21 @@ impl RegistryImage {
     }
 
     // NCE: in NOTOK as START, with the order NOTOK first; in OK it keeps OK.
-    pub(crate) fn network_change(mut self, out: &mut [u8], nodes: u8) -> Result<Recorded, Refusal>
+    pub(crate) fn network_change(mut self, out: &mut [u8], nodes: u8) -> Recorded
         requires { (1 ≤ nodes) × (nodes ≤ max_nodes) × (3 ≤ self.size)
             × (length (written (concluded (view_of self) (respond (view_of self) (NCE nodes)))) ≤ length out.old) }
-        ensures { Does self (concluded (view_of self) (respond (view_of self) (NCE nodes))) out.old (given self result) out.new }
+        ensures { Does self (concluded (view_of self) (respond (view_of self) (NCE nodes))) out.old result out.new }
     {
         if MAX_PASS <= self.pass {
-            return Err(Refusal::NoPassLeft);
+            return self.refuse(Refusal::NoPassLeft);
         }
         if self.state.is_ok() {
-            return Ok(self.rescan(out, nodes));
+            return self.rescan(out, nodes);
         }
         let at = wire_orders::write_notice(out, 0, self.pass + 1, Notice::NotOk);
         self.units = nodes - 1;
         self.entries = image::new_entries();
-        Ok(self.scan(out, at))
+        self.scan(out, at)
     }
 
     // SHUTDOWN: everything is emptied but the pass and L.
@@ -100,15 +100,15 @@ impl RegistryImage {
     }
 
     // DELAY: the delay ends, and every SILENT node is asked.
-    pub(crate) fn delay_expired(mut self, out: &mut [u8], pass: u32) -> Result<Recorded, Refusal>
+    pub(crate) fn delay_expired(mut self, out: &mut [u8], pass: u32) -> Recorded
         requires { length (written (concluded (view_of self) (respond (view_of self) (DELAY pass)))) ≤ length out.old }
-        ensures { Does self (concluded (view_of self) (respond (view_of self) (DELAY pass))) out.old (given self result) out.new }
+        ensures { Does self (concluded (view_of self) (respond (view_of self) (DELAY pass))) out.old result out.new }
     {
         if pass != self.pass {
-            return Err(Refusal::WrongPass);
+            return self.refuse(Refusal::WrongPass);
         }
         if self.delay.0 == STOPPED {
-            return Err(Refusal::NotAsked);
+            return self.refuse(Refusal::NotAsked);
         }
         let n = self.unit_count();
         let end = ring_tell::asks::write_asks(out, 0, pass, self.ring(), Which::Silent);
@@ -116,6 +116,6 @@ impl RegistryImage {
         changes::all_asked(&mut entries[..n]);
         self.entries = entries;
         self.delay = CfgDelay(STOPPED);
-        Ok(self.finish(out, end))
+        self.finish(out, end)
     }
 }

@@ -27,20 +27,38 @@ filled_one f es e =
     ap (λ (k : ℕ). set (sets (replicate max_entries 0) 0 (map f es)) k (f e)) n
     ∙ sets_append (replicate max_entries 0) 0 (map f es) (f e ∷ []) ∙ ap (sets (replicate max_entries 0) 0) (sym (map_append f es (e ∷ [])))
 
-pub pushed : (l : Listing) (e : Entry) (es : List Entry) → l ≡ flat_of es
-    → ◌≡◌ {A = Listing}
+-- a listing that counts so many places
+unfoldable pub counting : ℕ → Listing → Listing
+counting n l = record { count = n; positions = l.positions; addresses = l.addresses; blocks = l.blocks; numbers = l.numbers }
+
+-- the count of its own
+pub counting_own : (l : Listing) (n : ℕ) → n ≡ l.count → counting n l ≡ l
+unfolding counting
+counting_own l n e = λ t. record { count = e t; positions = l.positions; addresses = l.addresses; blocks = l.blocks; numbers = l.numbers }
+
+-- one entry more, at the place that is counted to
+pub counting_on : (l : Listing) (n m : ℕ) → m ≡ n + 1 → (e : Entry) (es : List Entry) → counting n l ≡ flat_of es
+    → counting m
     (record {
-      count = l.count + 1;
-      positions = set l.positions l.count e.position;
-      addresses = set l.addresses l.count e.address;
-      blocks = set l.blocks l.count e.pair.block;
-      numbers = set l.numbers l.count e.pair.number;
+      count = l.count;
+      positions = set l.positions n e.position;
+      addresses = set l.addresses n e.address;
+      blocks = set l.blocks n e.pair.block;
+      numbers = set l.numbers n e.pair.number;
     })
-    (flat_of (es ++ e ∷ []))
-unfolding flat_of
-pushed l e es h =
-    let n : length es + 1 ≡ length (es ++ e ∷ []) = omega (arith, length-append es (e ∷ [])) in
+    ≡ flat_of (es ++ e ∷ [])
+unfolding counting flat_of
+counting_on l n m k e es h =
+    let more : length es + 1 ≡ length (es ++ e ∷ []) = omega (arith, length-append es (e ∷ [])) in
     (λ t.
+    record {
+      count = k t;
+      positions = set l.positions n e.position;
+      addresses = set l.addresses n e.address;
+      blocks = set l.blocks n e.pair.block;
+      numbers = set l.numbers n e.pair.number;
+    })
+    ∙ (λ t.
     record {
       count = (h t).count + 1;
       positions = set (h t).positions (h t).count e.position;
@@ -50,7 +68,7 @@ pushed l e es h =
     })
     ∙ (λ t.
     record {
-      count = n t;
+      count = more t;
       positions = filled_one (λ (e : Entry). e.position) es e t;
       addresses = filled_one (λ (e : Entry). e.address) es e t;
       blocks = filled_one (λ (e : Entry). e.pair.block) es e t;

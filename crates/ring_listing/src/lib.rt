@@ -11,8 +11,7 @@ ghost use Rattle.ring_listing.specs.View.{flat_of};
 
 use row_entry::NodeEntry;
 use sizes::MAX_LISTED;
-use wire_address::{LogicalNodeAddress, NodePosition};
-use wire_pairs::Pair;
+use wire_address::NodePosition;
 
 // The first `count` places hold entries: a position, an address, a block and a number each. The places behind them hold zeros.
 // C interface: a count and four arrays side by side, in this order.
@@ -41,29 +40,24 @@ impl Listing {
         }
     }
 
-    // Another entry, behind these.
-    fn push(&mut self, position: NodePosition, address: LogicalNodeAddress, pair: Pair)
-        requires { self.old.count < max_entries }
-        ensures count { self.new.count ≡ self.old.count + 1 }
-        ensures entries { (es : List Entry) → self.old ≡ flat_of es → self.new ≡ flat_of (es ++ entry position.0 address.0 (pair_in pair) ∷ []) }
-    {
-        self.positions[self.count] = position.0;
-        self.addresses[self.count] = address.0;
-        self.blocks[self.count] = pair.block;
-        self.numbers[self.count] = pair.number;
-        self.count += 1;
-    }
-
-    // The pairs that a node keeps, behind these.
+    // The pairs that a node keeps, behind these. The count is told once, behind them all: a place that went on in the lent listing would
+    // be read again for each of its four bytes.
     fn list(&mut self, position: NodePosition, node: &NodeEntry)
         requires { self.old.count + max_pairs ≤ max_entries }
         ensures count { self.new.count ≤ self.old.count + max_pairs }
         ensures entries { (es : List Entry) → self.old ≡ flat_of es → self.new ≡ flat_of (es ++ entries_of position.0 (kept_in (row_of node.now))) }
     {
         let pairs = node.pairs();
+        let address = node.address;
+        let at = self.count;
         for i in 0..pairs.len() {
-            self.push(position, node.address, pairs.at(i));
+            let pair = pairs.at(i);
+            self.positions[at + i] = position.0;
+            self.addresses[at + i] = address.0;
+            self.blocks[at + i] = pair.block;
+            self.numbers[at + i] = pair.number;
         }
+        self.count = at + pairs.len();
     }
 }
 

@@ -1,4 +1,4 @@
--- At every turn the pairs passed are listed.
+-- At every turn the listing with the pairs passed counted lists them.
 use Prim.Native.Nat.{◌+◌}
 use mathlib.Core.List.{List, ◌++◌, map}
 use mathlib.Core.Path.{◌≡◌}
@@ -6,9 +6,10 @@ use lib.ListN.{take}
 use Rattle.rules.specs.Listing.{Entry, entry}
 use Rattle.wire_pairs.specs.View.{pairs_of}
 use Rattle.ring_listing.specs.View.{flat_of}
+use Rattle.ring_listing.proofs.Listed.{counting}
 use Rattle.ring_listing.proofs.Listing.list.Given as goal
 
 abbrev pub invariant-loop-i : goal.invariant-loop-i
 invariant-loop-i l =
-    (l.self.count ≡ l.initial.self.count + l.i)
-    × ((es : List Entry) → l.initial.self ≡ flat_of es → l.self ≡ flat_of (es ++ map (entry l.position.0 l.node.address.0) (take l.i (pairs_of l.pairs))))
+    (es : List Entry) → l.initial.self ≡ flat_of es
+    → counting (l.at + l.i) l.self ≡ flat_of (es ++ map (entry l.position.0 l.address.0) (take l.i (pairs_of l.pairs)))

@@ -1,8 +1,7 @@
 -- By the limit, then by the pass.
 use Prim.Native.Nat.{ℕ, suc, ◌-◌, ◌<◌, ◌≤◌}
 use Rattle.registry.proofs.Conflicts.{conflict_9, conflict_limit, conflict_restart}
-use Rattle.registry.proofs.Doing.{along, refuses_with}
-use Rattle.numbers.specs.declared.Refusal.TheVariants as refusals
+use Rattle.registry.proofs.Doing.{along, refuses}
 use Rattle.registry.proofs.Places.{inside}
 use Rattle.registry.specs.Outcome.{conflict_outcome, ignore_outcome, restart_outcome}
 use Rattle.registry.specs.View.{view_of}
@@ -55,7 +54,7 @@ returns-then-self-ge-MAX_PASS c =
     let verdict : Verdict = verdict_of c.args.verdict in
     let limited = c.reaches_limit.ensures ∙ ap (λ (rs : List Row). limit_reached verdict address (seat_at rs (suc (position - 1)))) c.ring.ensures.rows in
     let e = conflict_9 image position c.requires.0 address verdict limited c.if-reaches_limit.false c.if-self-ge-MAX_PASS.true in
-    refuses_with c.args.out.now refusals.NoPassLeft e
+    refuses c.args.out.now _ e c.refuse.ensures
 
 pub restart-requires : goal.restart-requires
 unfolding view_of

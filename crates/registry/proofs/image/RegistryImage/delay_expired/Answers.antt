@@ -1,8 +1,7 @@
 -- 5, 8, or the SILENT entries are asked.
 use Prim.Native.Nat.{◌+◌, ◌≤◌, ℕ}
 use Rattle.laws.specs.Buffers.{wrote_along}
-use Rattle.numbers.specs.declared.Refusal.TheVariants as refusals
-use Rattle.registry.proofs.Doing.{done, end_room, front_room, refuses_with}
+use Rattle.registry.proofs.Doing.{done, end_room, front_room, refuses}
 use Rattle.registry.proofs.Ring.{changed_marks, changed_rows, ring_length, ring_marks, ring_rows}
 use Rattle.registry.proofs.Scanning.{delay_front, delays, no_delay, wrong_pass}
 use Rattle.ring_state.specs.State.{runs}
@@ -23,12 +22,12 @@ use Rattle.registry.proofs.image.RegistryImage.delay_expired.Goals as goal
 pub returns-then-pass-self : goal.returns-then-pass-self
 unfolding view_of
 returns-then-pass-self c =
-    refuses_with c.args.out.now refusals.WrongPass (wrong_pass (view_of c.args.self) c.args.pass c.if-pass-self.true)
+    refuses c.args.out.now _ (wrong_pass (view_of c.args.self) c.args.pass c.if-pass-self.true) c.refuse.ensures
 
 pub returns-then-self-eq-STOPPED : goal.returns-then-self-eq-STOPPED
 unfolding view_of runs
 returns-then-self-eq-STOPPED c =
-    refuses_with c.args.out.now refusals.NotAsked (no_delay (view_of c.args.self) c.args.pass c.if-pass-self.false (ap not (eq-eqb _ _ c.if-self-eq-STOPPED.true)))
+    refuses c.args.out.now _ (no_delay (view_of c.args.self) c.args.pass c.if-pass-self.false (ap not (eq-eqb _ _ c.if-self-eq-STOPPED.true))) c.refuse-then-self-eq-STOPPED.ensures
 
 pub write_asks-end-requires : goal.write_asks-end-requires
 unfolding view_of runs delay_ends

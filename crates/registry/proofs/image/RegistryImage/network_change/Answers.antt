@@ -1,7 +1,6 @@
 -- 9; in OK what `rescan` does; else NOTOK and new entries that are scanned.
 use Prim.Native.Nat.{◌-◌, ◌≤◌}
-use Rattle.registry.proofs.Doing.{along, refuses_with}
-use Rattle.numbers.specs.declared.Refusal.TheVariants as refusals
+use Rattle.registry.proofs.Doing.{along, refuses}
 use Rattle.registry.proofs.Scanning.{begins, first_room, notok_room, notok_wrote, rescans_not, rescans_notok, rescans_ok, second_room}
 use Rattle.registry.specs.Outcome.{rescan_outcome}
 use Rattle.registry.specs.View.{view_of}
@@ -21,7 +20,7 @@ use Rattle.registry.proofs.image.RegistryImage.network_change.Goals as goal
 pub returns-then-self-ge-MAX_PASS : goal.returns-then-self-ge-MAX_PASS
 unfolding view_of
 returns-then-self-ge-MAX_PASS c =
-    refuses_with c.args.out.now refusals.NoPassLeft (rescans_not (view_of c.args.self) c.args.nodes c.if-self-ge-MAX_PASS.true)
+    refuses c.args.out.now _ (rescans_not (view_of c.args.self) c.args.nodes c.if-self-ge-MAX_PASS.true) c.refuse.ensures
 
 pub rescan-requires : goal.rescan-requires
 unfolding view_of

@@ -2,8 +2,7 @@
 use Prim.Native.Nat.{◌-◌}
 use Rattle.laws.specs.Buffers.{wrote_nothing}
 use Rattle.laws.specs.Lists.{collect}
-use Rattle.registry.proofs.Doing.{refuses_with}
-use Rattle.numbers.specs.declared.Refusal.TheVariants as refusals
+use Rattle.registry.proofs.Doing.{refuses}
 use Rattle.registry.proofs.Scanning.{begins, second_room, starts, starts_not}
 use Rattle.registry.specs.View.{view_of}
 use Rattle.rules.specs.Order.{encode_all}
@@ -16,7 +15,7 @@ use Rattle.registry.proofs.image.RegistryImage.start.Goals as goal
 pub returns-then-self-ge-MAX_PASS : goal.returns-then-self-ge-MAX_PASS
 unfolding view_of
 returns-then-self-ge-MAX_PASS c =
-    refuses_with c.args.out.now refusals.NoPassLeft (starts_not (view_of c.args.self) c.args.nodes c.if-self-ge-MAX_PASS.true)
+    refuses c.args.out.now _ (starts_not (view_of c.args.self) c.args.nodes c.if-self-ge-MAX_PASS.true) c.refuse.ensures
 
 pub scan-requires : goal.scan-requires
 unfolding view_of with_rows encode_all collect

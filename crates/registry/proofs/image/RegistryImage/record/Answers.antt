@@ -9,7 +9,7 @@ use Rattle.std.proofs.lemmas.Result.{err_from_is_err_and}
 use native.Mathlib.Nat.{suc-ne-zero}
 use Rattle.ring_refusals.specs.Numbers.{refusal_of}
 use Rattle.numbers.specs.declared.Refusal.TheVariants as refusals
-use Rattle.registry.proofs.Doing.{refuses_with}
+use Rattle.registry.proofs.Doing.{refuses}
 use Rattle.registry.proofs.Places.{index, inside, seat_entry}
 use Rattle.registry.proofs.Recording.{Decoded, answered_at, fits_at, formed, late_step, own_step, recorded_at, recorded_err, silent_at, table_step}
 use Rattle.registry.proofs.Ring.{ring_marks}
@@ -25,12 +25,12 @@ use Rattle.rules.specs.Renumber.{finished}
 use Rattle.rules.specs.Run.{concluded}
 use Rattle.rules.specs.Step.{silenced}
 use Rattle.wire_pairs.specs.View.{pairs_of}
-use Rattle.registry.proofs.image.RegistryImage.take.Goals as goal
+use Rattle.registry.proofs.image.RegistryImage.record.Goals as goal
 
 pub returns-then-out-lt-MIN_ROOM : goal.returns-then-out-lt-MIN_ROOM
 returns-then-out-lt-MIN_ROOM c =
     recorded c.args.self c.requires c.args.bytes.now c.args.out.now (step_1 (view_of c.args.self) c.args.bytes.now (length c.args.out.now) c.if-out-lt-MIN_ROOM.true)
-    (refuses_with c.args.out.now refusals.OrderRoomTooShort refl)
+    (refuses c.args.out.now 1 refl c.refuse.ensures)
 
 pub returns-in_default : goal.returns-in_default
 unfolding refusal_of
@@ -38,21 +38,20 @@ returns-in_default c =
     let p = view_of c.args.self in
     recorded c.args.self c.requires c.args.bytes.now c.args.out.now
     (step_refused p c.args.bytes.now (length c.args.out.now) c.if-out-lt-MIN_ROOM.false c.in_default.ensures {n = 2} refl (suc-ne-zero 1))
-    (refuses_with c.args.out.now refusals.RecordMalformed refl)
+    (refuses c.args.out.now 2 refl c.refuse-in_default.ensures)
 
-pub returns-in_err-refusal : goal.returns-in_err-refusal
-returns-in_err-refusal c =
+pub returns-in-Err : goal.returns-in-Err
+returns-in-Err c =
     let r : Decoded = record { image = c.args.self; given = c.args.bytes.now; lent = c.args.out.now; event = c.in-Some.event; handed = c.requires; room = c.if-out-lt-MIN_ROOM.false; decoded = c.in-Some.ensures } in
-    let e = c.in_err-refusal.field-0.0 in
-    let p = err_from_is_err_and c.from_residual.result c.from_residual.ensures.1 in rw (p.1, p.2) (recorded_err r e (table_step r e c.in_err-refusal.ensures))
+    recorded_err r c.in-Err.refusal (table_step r c.in-Err.refusal c.in-Err.ensures) c.refuse-in-Err.ensures
 
 pub start-requires : goal.start-requires
 unfolding view_of respond_to
 start-requires c =
     let r : Decoded = record { image = c.args.self; given = c.args.bytes.now; lent = c.args.out.now; event = c.in-Some.event; handed = c.requires; room = c.if-out-lt-MIN_ROOM.false; decoded = c.in-Some.ensures } in
     let full : length c.args.self.entries ≡ max_units = search (rules, c.well_formed) in
-    let table = c.in_ok-refusal.ensures in
-    let looked = c.in_ok-reply_refusal.ensures in
+    let table = c.in_default-refusal.ensures in
+    let looked = c.in_default-reply_refusal.ensures in
     let w = formed r c.in-Start.is in
     (w.0, w.1, fits_at r (own_step r table c.in-Start.is))
 
@@ -61,8 +60,8 @@ unfolding view_of respond_to
 network_change-requires c =
     let r : Decoded = record { image = c.args.self; given = c.args.bytes.now; lent = c.args.out.now; event = c.in-Some.event; handed = c.requires; room = c.if-out-lt-MIN_ROOM.false; decoded = c.in-Some.ensures } in
     let full : length c.args.self.entries ≡ max_units = search (rules, c.well_formed) in
-    let table = c.in_ok-refusal.ensures in
-    let looked = c.in_ok-reply_refusal.ensures in
+    let table = c.in_default-refusal.ensures in
+    let looked = c.in_default-reply_refusal.ensures in
     let w = formed r c.in-NetworkChange.is in
     (w.0, w.1, reached_size (view_of r.image) c.requires.reached, fits_at r (own_step r table c.in-NetworkChange.is))
 
@@ -70,8 +69,8 @@ pub overflow_sub-seat : goal.overflow_sub-seat
 overflow_sub-seat c =
     let r : Decoded = record { image = c.args.self; given = c.args.bytes.now; lent = c.args.out.now; event = c.in-Some.event; handed = c.requires; room = c.if-out-lt-MIN_ROOM.false; decoded = c.in-Some.ensures } in
     let full : length c.args.self.entries ≡ max_units = search (rules, c.well_formed) in
-    let table = c.in_ok-refusal.ensures in
-    let looked = c.in_ok-reply_refusal.ensures in
+    let table = c.in_default-refusal.ensures in
+    let looked = c.in_default-reply_refusal.ensures in
     let s = c.args.self in
     let x = c.in-Answer.position.0 in
     let a = answered_at r full c.ring.result.now c.ring.ensures.length c.ring.ensures.rows table looked refl c.in-Answer.pass c.in-Answer.position c.in-Answer.address c.in-Answer.pairs c.in-Answer.is in
@@ -81,8 +80,8 @@ pub hear-heard-requires : goal.hear-heard-requires
 hear-heard-requires c =
     let r : Decoded = record { image = c.args.self; given = c.args.bytes.now; lent = c.args.out.now; event = c.in-Some.event; handed = c.requires; room = c.if-out-lt-MIN_ROOM.false; decoded = c.in-Some.ensures } in
     let full : length c.args.self.entries ≡ max_units = search (rules, c.well_formed) in
-    let table = c.in_ok-refusal.ensures in
-    let looked = c.in_ok-reply_refusal.ensures in
+    let table = c.in_default-refusal.ensures in
+    let looked = c.in_default-reply_refusal.ensures in
     let s = c.args.self in
     let x = c.in-Answer.position.0 in
     let a = answered_at r full c.ring.result.now c.ring.ensures.length c.ring.ensures.rows table looked refl c.in-Answer.pass c.in-Answer.position c.in-Answer.address c.in-Answer.pairs c.in-Answer.is in
@@ -93,8 +92,8 @@ unfolding view_of
 conflict-requires c =
     let r : Decoded = record { image = c.args.self; given = c.args.bytes.now; lent = c.args.out.now; event = c.in-Some.event; handed = c.requires; room = c.if-out-lt-MIN_ROOM.false; decoded = c.in-Some.ensures } in
     let full : length c.args.self.entries ≡ max_units = search (rules, c.well_formed) in
-    let table = c.in_ok-refusal.ensures in
-    let looked = c.in_ok-reply_refusal.ensures in
+    let table = c.in_default-refusal.ensures in
+    let looked = c.in_default-reply_refusal.ensures in
     let s = c.args.self in
     let x = c.in-Answer.position.0 in
     let a = answered_at r full c.ring.result.now c.ring.ensures.length c.ring.ensures.rows table looked refl c.in-Answer.pass c.in-Answer.position c.in-Answer.address c.in-Answer.pairs c.in-Answer.is in
@@ -107,8 +106,8 @@ pub returns-then-conflicts : goal.returns-then-conflicts
 returns-then-conflicts c =
     let r : Decoded = record { image = c.args.self; given = c.args.bytes.now; lent = c.args.out.now; event = c.in-Some.event; handed = c.requires; room = c.if-out-lt-MIN_ROOM.false; decoded = c.in-Some.ensures } in
     let full : length c.args.self.entries ≡ max_units = search (rules, c.well_formed) in
-    let table = c.in_ok-refusal.ensures in
-    let looked = c.in_ok-reply_refusal.ensures in
+    let table = c.in_default-refusal.ensures in
+    let looked = c.in_default-reply_refusal.ensures in
     let s = c.args.self in
     let x = c.in-Answer.position.0 in
     let a = answered_at r full c.ring.result.now c.ring.ensures.length c.ring.ensures.rows table looked refl c.in-Answer.pass c.in-Answer.position c.in-Answer.address c.in-Answer.pairs c.in-Answer.is in
@@ -122,8 +121,8 @@ unfolding view_of
 reply-requires c =
     let r : Decoded = record { image = c.args.self; given = c.args.bytes.now; lent = c.args.out.now; event = c.in-Some.event; handed = c.requires; room = c.if-out-lt-MIN_ROOM.false; decoded = c.in-Some.ensures } in
     let full : length c.args.self.entries ≡ max_units = search (rules, c.well_formed) in
-    let table = c.in_ok-refusal.ensures in
-    let looked = c.in_ok-reply_refusal.ensures in
+    let table = c.in_default-refusal.ensures in
+    let looked = c.in_default-reply_refusal.ensures in
     let s = c.args.self in
     let x = c.in-Answer.position.0 in
     let a = answered_at r full c.ring.result.now c.ring.ensures.length c.ring.ensures.rows table looked refl c.in-Answer.pass c.in-Answer.position c.in-Answer.address c.in-Answer.pairs c.in-Answer.is in
@@ -137,8 +136,8 @@ pub returns-else-conflicts : goal.returns-else-conflicts
 returns-else-conflicts c =
     let r : Decoded = record { image = c.args.self; given = c.args.bytes.now; lent = c.args.out.now; event = c.in-Some.event; handed = c.requires; room = c.if-out-lt-MIN_ROOM.false; decoded = c.in-Some.ensures } in
     let full : length c.args.self.entries ≡ max_units = search (rules, c.well_formed) in
-    let table = c.in_ok-refusal.ensures in
-    let looked = c.in_ok-reply_refusal.ensures in
+    let table = c.in_default-refusal.ensures in
+    let looked = c.in_default-reply_refusal.ensures in
     let s = c.args.self in
     let x = c.in-Answer.position.0 in
     let a = answered_at r full c.ring.result.now c.ring.ensures.length c.ring.ensures.rows table looked refl c.in-Answer.pass c.in-Answer.position c.in-Answer.address c.in-Answer.pairs c.in-Answer.is in
@@ -151,8 +150,8 @@ pub overflow_sub-position : goal.overflow_sub-position
 overflow_sub-position c =
     let r : Decoded = record { image = c.args.self; given = c.args.bytes.now; lent = c.args.out.now; event = c.in-Some.event; handed = c.requires; room = c.if-out-lt-MIN_ROOM.false; decoded = c.in-Some.ensures } in
     let full : length c.args.self.entries ≡ max_units = search (rules, c.well_formed) in
-    let table = c.in_ok-refusal.ensures in
-    let looked = c.in_ok-reply_refusal.ensures in
+    let table = c.in_default-refusal.ensures in
+    let looked = c.in_default-reply_refusal.ensures in
     let s = c.args.self in
     let x = c.in-NoAnswer.position.0 in
     let k = silent_at r full c.ring.result.now c.ring.ensures.length c.ring.ensures.rows table looked refl c.in-NoAnswer.pass c.in-NoAnswer.position c.in-NoAnswer.is in
@@ -162,8 +161,8 @@ pub bounds-self-position : goal.bounds-self-position
 bounds-self-position c =
     let r : Decoded = record { image = c.args.self; given = c.args.bytes.now; lent = c.args.out.now; event = c.in-Some.event; handed = c.requires; room = c.if-out-lt-MIN_ROOM.false; decoded = c.in-Some.ensures } in
     let full : length c.args.self.entries ≡ max_units = search (rules, c.well_formed) in
-    let table = c.in_ok-refusal.ensures in
-    let looked = c.in_ok-reply_refusal.ensures in
+    let table = c.in_default-refusal.ensures in
+    let looked = c.in_default-reply_refusal.ensures in
     let s = c.args.self in
     let x = c.in-NoAnswer.position.0 in
     let k = silent_at r full c.ring.result.now c.ring.ensures.length c.ring.ensures.rows table looked refl c.in-NoAnswer.pass c.in-NoAnswer.position c.in-NoAnswer.is in
@@ -174,8 +173,8 @@ unfolding view_of
 reply-requires-in-NoAnswer c =
     let r : Decoded = record { image = c.args.self; given = c.args.bytes.now; lent = c.args.out.now; event = c.in-Some.event; handed = c.requires; room = c.if-out-lt-MIN_ROOM.false; decoded = c.in-Some.ensures } in
     let full : length c.args.self.entries ≡ max_units = search (rules, c.well_formed) in
-    let table = c.in_ok-refusal.ensures in
-    let looked = c.in_ok-reply_refusal.ensures in
+    let table = c.in_default-refusal.ensures in
+    let looked = c.in_default-reply_refusal.ensures in
     let s = c.args.self in
     let x = c.in-NoAnswer.position.0 in
     let k = silent_at r full c.ring.result.now c.ring.ensures.length c.ring.ensures.rows table looked refl c.in-NoAnswer.pass c.in-NoAnswer.position c.in-NoAnswer.is in
@@ -188,8 +187,8 @@ unfolding view_of
 returns-in-NoAnswer c =
     let r : Decoded = record { image = c.args.self; given = c.args.bytes.now; lent = c.args.out.now; event = c.in-Some.event; handed = c.requires; room = c.if-out-lt-MIN_ROOM.false; decoded = c.in-Some.ensures } in
     let full : length c.args.self.entries ≡ max_units = search (rules, c.well_formed) in
-    let table = c.in_ok-refusal.ensures in
-    let looked = c.in_ok-reply_refusal.ensures in
+    let table = c.in_default-refusal.ensures in
+    let looked = c.in_default-reply_refusal.ensures in
     let s = c.args.self in
     let x = c.in-NoAnswer.position.0 in
     let k = silent_at r full c.ring.result.now c.ring.ensures.length c.ring.ensures.rows table looked refl c.in-NoAnswer.pass c.in-NoAnswer.position c.in-NoAnswer.is in
@@ -202,8 +201,8 @@ unfolding view_of respond_to
 delay_expired-requires c =
     let r : Decoded = record { image = c.args.self; given = c.args.bytes.now; lent = c.args.out.now; event = c.in-Some.event; handed = c.requires; room = c.if-out-lt-MIN_ROOM.false; decoded = c.in-Some.ensures } in
     let full : length c.args.self.entries ≡ max_units = search (rules, c.well_formed) in
-    let table = c.in_ok-refusal.ensures in
-    let looked = c.in_ok-reply_refusal.ensures in
+    let table = c.in_default-refusal.ensures in
+    let looked = c.in_default-reply_refusal.ensures in
     fits_at r (own_step r table c.in-DelayExpired.is)
 
 pub returns-in-Start : goal.returns-in-Start
@@ -211,8 +210,8 @@ unfolding view_of respond_to
 returns-in-Start c =
     let r : Decoded = record { image = c.args.self; given = c.args.bytes.now; lent = c.args.out.now; event = c.in-Some.event; handed = c.requires; room = c.if-out-lt-MIN_ROOM.false; decoded = c.in-Some.ensures } in
     let full : length c.args.self.entries ≡ max_units = search (rules, c.well_formed) in
-    let table = c.in_ok-refusal.ensures in
-    let looked = c.in_ok-reply_refusal.ensures in
+    let table = c.in_default-refusal.ensures in
+    let looked = c.in_default-reply_refusal.ensures in
     recorded_at r (own_step r table c.in-Start.is) c.start.ensures
 
 pub returns-in-NetworkChange : goal.returns-in-NetworkChange
@@ -220,8 +219,8 @@ unfolding view_of respond_to
 returns-in-NetworkChange c =
     let r : Decoded = record { image = c.args.self; given = c.args.bytes.now; lent = c.args.out.now; event = c.in-Some.event; handed = c.requires; room = c.if-out-lt-MIN_ROOM.false; decoded = c.in-Some.ensures } in
     let full : length c.args.self.entries ≡ max_units = search (rules, c.well_formed) in
-    let table = c.in_ok-refusal.ensures in
-    let looked = c.in_ok-reply_refusal.ensures in
+    let table = c.in_default-refusal.ensures in
+    let looked = c.in_default-reply_refusal.ensures in
     recorded_at r (own_step r table c.in-NetworkChange.is) c.network_change.ensures
 
 pub returns-in-Shutdown : goal.returns-in-Shutdown
@@ -229,8 +228,8 @@ unfolding view_of respond_to
 returns-in-Shutdown c =
     let r : Decoded = record { image = c.args.self; given = c.args.bytes.now; lent = c.args.out.now; event = c.in-Some.event; handed = c.requires; room = c.if-out-lt-MIN_ROOM.false; decoded = c.in-Some.ensures } in
     let full : length c.args.self.entries ≡ max_units = search (rules, c.well_formed) in
-    let table = c.in_ok-refusal.ensures in
-    let looked = c.in_ok-reply_refusal.ensures in
+    let table = c.in_default-refusal.ensures in
+    let looked = c.in_default-reply_refusal.ensures in
     recorded_at r (own_step r table c.in-Shutdown.is) c.shut_down.ensures
 
 pub returns-in-DelayExpired : goal.returns-in-DelayExpired
@@ -238,15 +237,14 @@ unfolding view_of respond_to
 returns-in-DelayExpired c =
     let r : Decoded = record { image = c.args.self; given = c.args.bytes.now; lent = c.args.out.now; event = c.in-Some.event; handed = c.requires; room = c.if-out-lt-MIN_ROOM.false; decoded = c.in-Some.ensures } in
     let full : length c.args.self.entries ≡ max_units = search (rules, c.well_formed) in
-    let table = c.in_ok-refusal.ensures in
-    let looked = c.in_ok-reply_refusal.ensures in
+    let table = c.in_default-refusal.ensures in
+    let looked = c.in_default-reply_refusal.ensures in
     recorded_at r (own_step r table c.in-DelayExpired.is) c.delay_expired.ensures
 
-pub returns-in_err-reply_refusal : goal.returns-in_err-reply_refusal
-returns-in_err-reply_refusal c =
+pub returns-in-Err-reply_refusal : goal.returns-in-Err-reply_refusal
+returns-in-Err-reply_refusal c =
     let r : Decoded = record { image = c.args.self; given = c.args.bytes.now; lent = c.args.out.now; event = c.in-Some.event; handed = c.requires; room = c.if-out-lt-MIN_ROOM.false; decoded = c.in-Some.ensures } in
     let full : length c.args.self.entries ≡ max_units = search (rules, c.well_formed) in
-    let e = c.in_err-reply_refusal.field-0.0 in
-    let p = err_from_is_err_and c.from_residual-in_err-reply_refusal.result c.from_residual-in_err-reply_refusal.ensures.1 in
-    rw (p.1, p.2)
-    (recorded_err r e (late_step r full c.ring.result.now c.ring.ensures.length c.ring.ensures.rows c.in_ok-refusal.ensures c.in_err-reply_refusal.ensures e refl))
+    recorded_err r c.in-Err-reply_refusal.late
+    (late_step r full c.ring.result.now c.ring.ensures.length c.ring.ensures.rows c.in_default-refusal.ensures c.in-Err-reply_refusal.ensures c.in-Err-reply_refusal.late refl)
+    c.refuse-in-Err-reply_refusal.ensures

@@ -1,11 +1,12 @@
 -- A record on its way: what is known once its bytes are decoded, and what its own step comes to.
 use Prim.Native.Nat.{ℕ, ◌≤◌, min}
 use mathlib.Core.Option.{some}
+use Rattle.std.specs.Prelude.{Option, Some}
 use Rattle.numbers.specs.declared.Refusal.{Refusal}
 use Rattle.numbers.specs.declared.Refusal.TheVariants as refusals
 use Rattle.numbers.specs.Numbers.{number_of}
 use Rattle.ring_answer.specs.Hearing.{answered}
-use Rattle.wire_events.specs.View.{event_of}
+use Rattle.wire_events.specs.View.{event_of, event_in}
 use Rattle.wire_events.specs.declared.Event.{Event}
 use Rattle.ring_refusals.specs.Numbers.{refusal_of, reply_refusal, seat_in}
 use Rattle.ring_state.specs.State.{state_of}
@@ -64,16 +65,16 @@ pub record Decoded : Type 0 where
   pub image : RegistryImage
   pub given : List ℕ
   pub lent : List ℕ
-  pub event : Event
+  pub read : Option Event
   pub handed : HandedOut image
   pub room : min_room ≤ length lent
-  pub decoded : some (event_of event) ≡ decode given
+  pub decoded : event_in read ≡ decode given
 
 -- what the rules make of the record
 abbrev pub outcome : Decoded → Outcome
 outcome r = step (view_of r.image) r.given (length r.lent)
 
--- and where the event is f and nothing in front of its own step refuses it
+-- and where an event f was read and nothing in front of its own step refuses it
 abbrev pub step_of : Decoded → Event → Outcome
 step_of r f = concluded (view_of r.image) (respond_to (view_of r.image) (some (event_of f)))
 
@@ -84,53 +85,57 @@ module _ (r : Decoded) where
   pub recorded_at : {o : Outcome} {s : Recorded} {d : List ℕ} → outcome r ≡ o → Does r.image o r.lent s d → Does r.image (outcome r) r.lent s d × HandedOut s.picture
   recorded_at w k = recorded r.image r.handed r.given r.lent w k
 
-  pub formed : {f : Event} → r.event ≡ f → WellFormed (some (event_of f))
-  formed e = subst (λ (f : Event). WellFormed (some (event_of f))) e (well_formed (view_of r.image) r.given (length r.lent) r.room r.decoded)
+  pub formed : {f : Event} → r.read ≡ Some f → WellFormed (some (event_of f))
+  formed e = subst (λ (o : Option Event). WellFormed (event_in o)) e (well_formed (view_of r.image) r.given (length r.lent) r.room r.decoded)
 
   -- a refusal
   pub recorded_err : (e : Refusal) {s : Recorded} → outcome r ≡ refused (number_of e) → (s.number ≡ number_of e) × (s.length ≡ 0) × (s.picture ≡ r.image)
       → Does r.image (outcome r) r.lent s r.lent × HandedOut s.picture
   recorded_err e w h = recorded_at w (refuses r.lent (number_of e) refl h)
 
-  -- 3 and 4
-  pub table_step : (e : Refusal) → number_of e ≡ refusal_of (state_of r.image.state.0) (some (event_of r.event)) → outcome r ≡ refused (number_of e)
+  -- 2, 3 and 4
+  pub table_step : (e : Refusal) → number_of e ≡ refusal_of (state_of r.image.state.0) (event_in r.read) → outcome r ≡ refused (number_of e)
   unfolding view_of
   table_step e h = step_refused (view_of r.image) r.given (length r.lent) r.room r.decoded h (numbered e)
 
   -- the table takes it
-  pub own_step : ◌≡◌ {A = ℕ} 0 (refusal_of (view_of r.image).state (some (event_of r.event))) → {f : Event} → r.event ≡ f → outcome r ≡ step_of r f
-  own_step t e = step_taken (view_of r.image) r.given (length r.lent) r.room r.decoded t ∙ ap (step_of r) e
+  own : ◌≡◌ {A = ℕ} 0 (refusal_of (view_of r.image).state (event_in r.read)) → outcome r ≡ concluded (view_of r.image) (respond_to (view_of r.image) (event_in r.read))
+  own t = step_taken (view_of r.image) r.given (length r.lent) r.room r.decoded t
+
+  pub own_step : ◌≡◌ {A = ℕ} 0 (refusal_of (view_of r.image).state (event_in r.read)) → {f : Event} → r.read ≡ Some f → outcome r ≡ step_of r f
+  own_step t e = own t ∙ ap (λ (o : Option Event). concluded (view_of r.image) (respond_to (view_of r.image) (event_in o))) e
 
   -- what is looked at for an ANSWER or a NONE
   module _ (full : length r.image.entries ≡ max_units) (ring : List NodeEntry) (l : length ring ≡ min r.image.units max_units)
-      (rows : map row_of ring ≡ (view_of r.image).rows) (table : ◌≡◌ {A = ℕ} 0 (refusal_of (state_of r.image.state.0) (some (event_of r.event)))) {n : ℕ}
-      (looked : n ≡ reply_refusal (state_of r.image.state.0) r.image.pass (length ring) (get_or (map row_of ring) (seat_in (some (event_of r.event))) no_row) (some (event_of r.event))) where
+      (rows : map row_of ring ≡ (view_of r.image).rows) (table : ◌≡◌ {A = ℕ} 0 (refusal_of (state_of r.image.state.0) (event_in r.read))) {n : ℕ}
+      (looked : n ≡ reply_refusal (state_of r.image.state.0) r.image.pass (length ring) (get_or (map row_of ring) (seat_in (event_in r.read)) no_row) (event_in r.read)) where
     many : min (length ring) max_units ≡ length (view_of r.image).rows
     many = omega (arith, l, ap length rows, length-map ring row_of)
 
-    -- as the rules look at it, where the event is f
-    late : {f : Event} → r.event ≡ f → n ≡ reply_refusal (view_of r.image).state r.image.pass (length ring) (get_or (view_of r.image).rows (seat_in (some (event_of f))) no_row) (some (event_of f))
+    -- as the rules look at it, whatever was read
+    late : {o : Option Event} → r.read ≡ o → n ≡ reply_refusal (view_of r.image).state r.image.pass (length ring) (get_or (view_of r.image).rows (seat_in (event_in o)) no_row) (event_in o)
     unfolding view_of
-    late {f} e =
+    late e =
         looked
-        ∙ (λ t. reply_refusal (state_of r.image.state.0) r.image.pass (length ring) (get_or (rows t) (seat_in (some (event_of (e t)))) no_row) (some (event_of (e t))))
+        ∙ (λ t. reply_refusal (state_of r.image.state.0) r.image.pass (length ring) (get_or (rows t) (seat_in (event_in (e t))) no_row) (event_in (e t)))
 
-    taken : {f : Event} → r.event ≡ f → outcome r ≡ step_of r f
+    taken : {f : Event} → r.read ≡ Some f → outcome r ≡ step_of r f
     unfolding view_of
     taken e = own_step table e
 
     pub late_step : (e : Refusal) → number_of e ≡ n → outcome r ≡ refused (number_of e)
+    unfolding view_of
     late_step e h =
-        taken refl ∙ refused_late r.image full (length ring) many (some (event_of r.event)) (h ∙ late refl) (numbered e)
+        own table ∙ refused_late r.image full (length ring) many (event_in r.read) (h ∙ late refl) (numbered e)
 
     module _ (none : ◌≡◌ {A = ℕ} 0 n) (q : ℕ) (x : NodePosition) where
-      pub answered_at : (a : LogicalNodeAddress) (ps : Pairs) → r.event ≡ events.Answer q x a ps
+      pub answered_at : (a : LogicalNodeAddress) (ps : Pairs) → r.read ≡ Some (events.Answer q x a ps)
           → Seat r.image x.0 × (outcome r ≡ concluded (view_of r.image) (answered (seat_at (view_of r.image).rows x.0) x.0 a.0 (pairs_of ps) (view_of r.image)))
       unfolding respond_to
       answered_at a ps e =
           let k = answer_taken r.image full (length ring) many q x.0 a.0 (pairs_of ps) (none ∙ late e) in (k.0, taken e ∙ k.1)
 
-      pub silent_at : r.event ≡ events.NoAnswer q x
+      pub silent_at : r.read ≡ Some (events.NoAnswer q x)
           → Seat r.image x.0 × (outcome r ≡ reply_outcome (view_of r.image) x.0 0 (silenced (seat_at (view_of r.image).rows x.0).row) finished)
       unfolding respond_to
       silent_at e = let k = none_taken r.image full (length ring) many q x.0 (none ∙ late e) in (k.0, taken e ∙ k.1)

@@ -45,17 +45,17 @@ impl RegistryImage {
         if out.len() < MIN_ROOM {
             return self.refuse(Refusal::OrderRoomTooShort);
         }
-        let Some(event) = wire_events::decode(bytes) else {
-            return self.refuse(Refusal::RecordMalformed);
-        };
-        if let Err(refusal) = ring_refusals::refusal(self.state, &event) {
+        let read = wire_events::decode(bytes);
+        if let Err(refusal) = ring_refusals::refusal(self.state, &read) {
             return self.refuse(refusal);
         }
-        if let Err(late) =
-            ring_refusals::reply_refusal(self.state, self.pass, self.ring(), &event)
-        {
+        if let Err(late) = ring_refusals::reply_refusal(self.state, self.pass, self.ring(), &read) {
             return self.refuse(late);
         }
+        // Bytes that are no event are refused above.
+        let Some(event) = read else {
+            return self.refuse(Refusal::RecordMalformed);
+        };
         match event {
             Event::Start(nodes) => self.start(out, nodes),
             Event::NetworkChange(nodes) => self.network_change(out, nodes),

@@ -1,4 +1,4 @@
-// Why an event is refused, 3 to 8, from what the picture says of it.
+// Why a record is refused, 2 to 8, from what was read of it and what the picture says of it.
 #![tactic(auto)]
 
 ghost use Rattle.std.specs.Prelude.{◌≡◌, map, ◌≤◌, ◌<◌, length, get_or, IfOk};
@@ -7,7 +7,7 @@ ghost use Rattle.rules.specs.House.{max_units};
 ghost use Rattle.rules.specs.Picture.{no_row};
 ghost use Rattle.numbers.specs.Numbers.{number_in};
 ghost use Rattle.row_entry.specs.View.{row_of};
-ghost use Rattle.wire_events.specs.View.{event_of};
+ghost use Rattle.wire_events.specs.View.{event_of, event_in};
 ghost use Rattle.ring_state.specs.State.{state_of, state_row};
 ghost use Rattle.ring_refusals.specs.Numbers.{refusal_of, kind_in, number_or_none, place_in, seat_in, seat_refusal, unasked_number, unexpected_number, reply_refusal};
 
@@ -66,10 +66,14 @@ fn listed(state: RegistryState, event: &Event) -> Option<Refusal>
     REFUSALS[row_of(state)][kind_of(event)]
 }
 
-// 3 or 4 by the table.
-pub fn refusal(state: RegistryState, event: &Event) -> Result<(), Refusal>
-    ensures { number_in result ≡ refusal_of (state_of state.0) (some (event_of event.now)) }
+// 2 for bytes that are no event; 3 or 4 by the table.
+#[tactic(auto, unfolding(crate::specs::Numbers::refusal_of))]
+pub fn refusal(state: RegistryState, read: &Option<Event>) -> Result<(), Refusal>
+    ensures { number_in result ≡ refusal_of (state_of state.0) (event_in read.now) }
 {
+    let Some(event) = read else {
+        return Err(Refusal::RecordMalformed);
+    };
     match listed(state, event) {
         None => Ok(()),
         Some(refusal) => Err(refusal),
@@ -129,17 +133,17 @@ pub fn reply_refusal(
     state: RegistryState,
     current: u32,
     entries: &[NodeEntry],
-    event: &Event,
+    read: &Option<Event>,
 ) -> Result<(), Refusal>
     ensures { number_in result ≡ reply_refusal (state_of state.0) current (length entries.now)
-        (get_or (map row_of entries.now) (seat_in (some (event_of event.now))) no_row) (some (event_of event.now)) }
+        (get_or (map row_of entries.now) (seat_in (event_in read.now)) no_row) (event_in read.now) }
 {
-    match *event {
-        Event::Answer { pass, position, .. } => {
+    match *read {
+        Some(Event::Answer { pass, position, .. }) => {
             let entry = answering(current, entries, pass, position)?;
             unasked(state, &entry)
         }
-        Event::NoAnswer { pass, position } => {
+        Some(Event::NoAnswer { pass, position }) => {
             let entry = answering(current, entries, pass, position)?;
             unexpected(&entry)
         }

@@ -1,5 +1,5 @@
 -- What the code's verdict on an address stands for, and what follows from it, in the rules' words.
-use Rattle.std.specs.Prelude.{ℕ, Bool, true, false, ◌&&◌, ◌||◌}
+use Rattle.std.specs.Prelude.{ℕ, Bool, true, false, cond, ◌&&◌, ◌||◌}
 use Rattle.laws.specs.Lists.{any}
 use Rattle.rules.specs.Picture.{Row, keeps, Seat, others}
 use Rattle.rules.specs.Step as rules
@@ -42,3 +42,7 @@ limit_reached v a s = at_limit (counted s.row) || any (counts_at_limit v a) (oth
 unfoldable pub struck : (limit : Bool) → ℕ → Row → Row
 struck true a r = ignored a (counted r)
 struck false a r = counted r
+
+-- what a bad announcement makes of a row: it is struck where it counts for it
+abbrev pub struck_if : rules.Verdict → (limit : Bool) → ℕ → Row → Row
+struck_if v limit a r = cond (counts_for v a r) (struck limit a r) r

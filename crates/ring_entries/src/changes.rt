@@ -5,7 +5,7 @@ ghost use Rattle.rules.specs.Step.{asked, emptied, on_counted};
 ghost use Rattle.laws.specs.Alls.{All, Each};
 ghost use Rattle.row_entry.specs.View.{row_of};
 ghost use Rattle.row_entry.specs.Marks.{Marked};
-ghost use Rattle.ring_entries.specs.Verdicts.{verdict_of, counts_for, struck};
+ghost use Rattle.ring_entries.specs.Verdicts.{verdict_of, counts_for, struck, struck_if};
 
 use super::verdict::Verdict;
 use row_entry::NodeEntry;
@@ -48,6 +48,25 @@ fn strike(entry: NodeEntry, limit: bool, address: LogicalNodeAddress) -> NodeEnt
     }
 }
 
+// A bad announcement is counted for every entry that it counts for; at the limit all these are IGNORED for the announced address.
+pub fn all_struck(
+    entries: &mut [NodeEntry],
+    verdict: Verdict,
+    limit: bool,
+    address: LogicalNodeAddress,
+)
+    ensures { (map row_of entries.new ≡ map (struck_if (verdict_of verdict) limit address.0) (map row_of entries.old))
+        × (All Marked entries.old → All Marked entries.new) }
+{
+    all_changed(entries, |entry| {
+        if verdict.counts_for(&entry, address) {
+            strike(entry, limit, address)
+        } else {
+            entry
+        }
+    });
+}
+
 // A bad announcement of the node in the seat is counted for it and for those that it counts for beside it; at the limit all these are
 // IGNORED for the announced address.
 pub fn all_counted(
@@ -62,12 +81,6 @@ pub fn all_counted(
         (seat_at (map row_of entries.old) (suc seat))) × (All Marked entries.old → All Marked entries.new) }
 {
     let own = strike(entries[seat], limit, address);
-    all_changed(entries, |entry| {
-        if verdict.counts_for(&entry, address) {
-            strike(entry, limit, address)
-        } else {
-            entry
-        }
-    });
+    all_struck(entries, verdict, limit, address);
     entries[seat] = own;
 }

@@ -1,5 +1,8 @@
 -- What a record does: the next picture, the answer and the lent buffer, in one equation with the rules' outcome.
-use Rattle.std.specs.Prelude.{ℕ, suc, ◌+◌, ◌≤◌, min, ◌≡◌, true, false, List, [], ◌∷◌, ◌++◌, map, length}
+use Rattle.std.specs.Prelude.{ℕ, suc, ◌+◌, ◌≤◌, min, ◌≡◌, true, false, List, [], ◌∷◌, ◌++◌, map, length, Result}
+use Rattle.std.specs.Result.{result_unwrap_or}
+use Rattle.numbers.specs.declared.Refusal.{Refusal}
+use Rattle.numbers.specs.Numbers as numbers
 use Rattle.std.proofs.Math.Option.{Option, none, some}
 use Rattle.std.proofs.lemmas.List.Edits.{sets}
 use Rattle.rules.specs.Picture.{Picture, Row, fresh, is_open, seat_at}
@@ -41,6 +44,10 @@ pub record Marks (i : RegistryImage) : Type 0 where
   pub delay : i.delay.0 ≤ last_delay
   pub units : i.units ≤ max_units
   pub entries : All Marked i.entries
+
+-- what comes back of a record that left this picture: the length of the orders, or the number of a refusal and no orders
+abbrev pub given : RegistryImage → Result ℕ Refusal → Recorded
+given left r = record { number = numbers.number_in r; length = result_unwrap_or r 0; picture = left }
 
 -- What a record does to the picture that came in: what the rules say; a refusal hands back the very picture; and marks stay marks.
 pub record Does (came : RegistryImage) (o : Outcome) (before : List ℕ) (r : Recorded) (after : List ℕ) : Type 0 where

@@ -1,16 +1,15 @@
 // What an ANSWER or a NONE changes: one entry, or all that a conflict of addresses counts.
-ghost use Rattle.std.specs.Prelude.{◌≤◌, ◌<◌, length};
+ghost use Rattle.std.specs.Prelude.{◌≤◌, ◌<◌, length, Ok};
 ghost use Rattle.rules.specs.House.{max_pass};
 ghost use Rattle.rules.specs.Run.{written};
 ghost use Rattle.row_entry.specs.View.{row_of};
 ghost use Rattle.row_entry.specs.Marks.{Marked};
 ghost use Rattle.row_renumber.specs.Marks.{renumbering_of};
 ghost use Rattle.registry.specs.View.{view_of};
-ghost use Rattle.registry.specs.Outcome.{Does, Seat, reply_outcome, conflict_outcome, ignore_outcome, restart_outcome};
+ghost use Rattle.registry.specs.Outcome.{Does, given, Seat, reply_outcome, conflict_outcome, ignore_outcome, restart_outcome};
 ghost use Rattle.ring_entries.specs.Verdicts.{verdict_of};
 
 use super::image::RegistryImage;
-use super::record::Recorded;
 use super::scan::MAX_PASS;
 use numbers::Refusal;
 use ring_entries::verdict::Verdict;
@@ -23,17 +22,17 @@ use wire_orders::Notice;
 impl RegistryImage {
     // The entry of a position becomes another, and a renumbering is sent: what is told of the entry, the SET, and the ending.
     pub(crate) fn reply(
-        mut self,
+        &mut self,
         out: &mut [u8],
         position: NodePosition,
         address: LogicalNodeAddress,
         next: NodeEntry,
         step: Option<Offer>,
-    ) -> Recorded
-        requires { Seat self position.0 × (3 ≤ self.size) × Marked next
-            × (length (written (reply_outcome (view_of self) position.0 address.0 (row_of next) (renumbering_of step))) ≤ length out.old) }
-        ensures { Does self (reply_outcome (view_of self) position.0 address.0 (row_of next) (renumbering_of step))
-            out.old result out.new }
+    ) -> usize
+        requires { Seat self.old position.0 × (3 ≤ self.old.size) × Marked next
+            × (length (written (reply_outcome (view_of self.old) position.0 address.0 (row_of next) (renumbering_of step))) ≤ length out.old) }
+        ensures { Does self.old (reply_outcome (view_of self.old) position.0 address.0 (row_of next) (renumbering_of step))
+            out.old (given self.new (Ok result)) out.new }
     {
         let seat = position.0 as usize - 1;
         let before = self.entries[seat];
@@ -46,15 +45,15 @@ impl RegistryImage {
 
     // A counted entry stands at the limit: all that are counted are IGNORED for the announced address.
     fn ignore(
-        mut self,
+        &mut self,
         out: &mut [u8],
         position: NodePosition,
         address: LogicalNodeAddress,
         verdict: Verdict,
-    ) -> Recorded
-        requires { Seat self position.0 × (3 ≤ self.size)
-            × (length (written (ignore_outcome (verdict_of verdict) (view_of self) position.0 address.0)) ≤ length out.old) }
-        ensures { Does self (ignore_outcome (verdict_of verdict) (view_of self) position.0 address.0) out.old result out.new }
+    ) -> usize
+        requires { Seat self.old position.0 × (3 ≤ self.old.size)
+            × (length (written (ignore_outcome (verdict_of verdict) (view_of self.old) position.0 address.0)) ≤ length out.old) }
+        ensures { Does self.old (ignore_outcome (verdict_of verdict) (view_of self.old) position.0 address.0) out.old (given self.new (Ok result)) out.new }
     {
         let seat = position.0 as usize - 1;
         let n = self.unit_count();
@@ -75,15 +74,15 @@ impl RegistryImage {
 
     // A restart: all that are counted count one more, and every entry that is not IGNORED is asked.
     fn restart(
-        mut self,
+        &mut self,
         out: &mut [u8],
         position: NodePosition,
         address: LogicalNodeAddress,
         verdict: Verdict,
-    ) -> Recorded
-        requires { Seat self position.0 × (self.pass < max_pass)
-            × (length (written (restart_outcome (verdict_of verdict) (view_of self) position.0 address.0)) ≤ length out.old) }
-        ensures { Does self (restart_outcome (verdict_of verdict) (view_of self) position.0 address.0) out.old result out.new }
+    ) -> usize
+        requires { Seat self.old position.0 × (self.old.pass < max_pass)
+            × (length (written (restart_outcome (verdict_of verdict) (view_of self.old) position.0 address.0)) ≤ length out.old) }
+        ensures { Does self.old (restart_outcome (verdict_of verdict) (view_of self.old) position.0 address.0) out.old (given self.new (Ok result)) out.new }
     {
         let seat = position.0 as usize - 1;
         let n = self.unit_count();
@@ -97,23 +96,23 @@ impl RegistryImage {
 
     // A bad announcement, counted for the position, and where another entry keeps the address for that one too.
     pub(crate) fn conflict(
-        self,
+        &mut self,
         out: &mut [u8],
         position: NodePosition,
         address: LogicalNodeAddress,
         verdict: Verdict,
-    ) -> Recorded
-        requires { Seat self position.0 × (3 ≤ self.size)
-            × (length (written (conflict_outcome (verdict_of verdict) (view_of self) position.0 address.0)) ≤ length out.old) }
-        ensures { Does self (conflict_outcome (verdict_of verdict) (view_of self) position.0 address.0) out.old result out.new }
+    ) -> Result<usize, Refusal>
+        requires { Seat self.old position.0 × (3 ≤ self.old.size)
+            × (length (written (conflict_outcome (verdict_of verdict) (view_of self.old) position.0 address.0)) ≤ length out.old) }
+        ensures { Does self.old (conflict_outcome (verdict_of verdict) (view_of self.old) position.0 address.0) out.old (given self.new result) out.new }
     {
         let seat = position.0 as usize - 1;
         if limit::reaches_limit(self.ring(), seat, verdict, address) {
-            return self.ignore(out, position, address, verdict);
+            return Ok(self.ignore(out, position, address, verdict));
         }
         if MAX_PASS <= self.pass {
-            return self.refuse(Refusal::NoPassLeft);
+            return Err(Refusal::NoPassLeft);
         }
-        self.restart(out, position, address, verdict)
+        Ok(self.restart(out, position, address, verdict))
     }
 }

@@ -15,17 +15,17 @@ use Rattle.rules.specs.Run.{Outcome, written}
 use Rattle.rules.specs.Step.{Verdict}
 use lib.ListN.{length}
 use mathlib.Core.Bool.{true, false}
-use mathlib.Core.Path.{◌≡◌, ◌∙◌, ap, subst}
+use mathlib.Core.Path.{refl, ◌≡◌, ◌∙◌, ap, subst}
 use Rattle.registry.proofs.image.RegistryImage.conflict.Goals as goal
 
 pub reaches_limit-requires : goal.reaches_limit-requires
 reaches_limit-requires c =
-    omega (arith, inside c.args.self c.args.position.0 c.requires.0, c.ring.ensures.length)
+    omega (arith, inside c.args.self.now c.args.position.0 c.requires.0, c.ring.ensures.length)
 
 pub ignore-requires : goal.ignore-requires
 unfolding view_of
 ignore-requires c =
-    let image : RegistryImage = c.args.self in
+    let image : RegistryImage = c.args.self.now in
     let position : ℕ = c.args.position.0 in
     let address : ℕ = c.args.address.0 in
     let verdict : Verdict = verdict_of c.args.verdict in
@@ -37,7 +37,7 @@ ignore-requires c =
 pub returns-then-reaches_limit : goal.returns-then-reaches_limit
 unfolding view_of
 returns-then-reaches_limit c =
-    let image : RegistryImage = c.args.self in
+    let image : RegistryImage = c.args.self.now in
     let position : ℕ = c.args.position.0 in
     let address : ℕ = c.args.address.0 in
     let verdict : Verdict = verdict_of c.args.verdict in
@@ -48,18 +48,18 @@ returns-then-reaches_limit c =
 pub returns-then-self-ge-MAX_PASS : goal.returns-then-self-ge-MAX_PASS
 unfolding view_of
 returns-then-self-ge-MAX_PASS c =
-    let image : RegistryImage = c.args.self in
+    let image : RegistryImage = c.args.self.now in
     let position : ℕ = c.args.position.0 in
     let address : ℕ = c.args.address.0 in
     let verdict : Verdict = verdict_of c.args.verdict in
     let limited = c.reaches_limit.ensures ∙ ap (λ (rs : List Row). limit_reached verdict address (seat_at rs (suc (position - 1)))) c.ring.ensures.rows in
     let e = conflict_9 image position c.requires.0 address verdict limited c.if-reaches_limit.false c.if-self-ge-MAX_PASS.true in
-    refuses c.args.out.now _ e c.refuse.ensures
+    refuses c.args.out.now _ e (refl, refl, refl)
 
 pub restart-requires : goal.restart-requires
 unfolding view_of
 restart-requires c =
-    let image : RegistryImage = c.args.self in
+    let image : RegistryImage = c.args.self.now in
     let position : ℕ = c.args.position.0 in
     let address : ℕ = c.args.address.0 in
     let verdict : Verdict = verdict_of c.args.verdict in
@@ -71,7 +71,7 @@ restart-requires c =
 pub returns : goal.returns
 unfolding view_of
 returns c =
-    let image : RegistryImage = c.args.self in
+    let image : RegistryImage = c.args.self.now in
     let position : ℕ = c.args.position.0 in
     let address : ℕ = c.args.address.0 in
     let verdict : Verdict = verdict_of c.args.verdict in

@@ -22,17 +22,17 @@ use Rattle.registry.proofs.image.RegistryImage.delay_expired.Goals as goal
 pub returns-then-pass-self : goal.returns-then-pass-self
 unfolding view_of
 returns-then-pass-self c =
-    refuses c.args.out.now _ (wrong_pass (view_of c.args.self) c.args.pass c.if-pass-self.true) c.refuse.ensures
+    refuses c.args.out.now _ (wrong_pass (view_of c.args.self.now) c.args.pass c.if-pass-self.true) (refl, refl, refl)
 
 pub returns-then-self-eq-STOPPED : goal.returns-then-self-eq-STOPPED
 unfolding view_of runs
 returns-then-self-eq-STOPPED c =
-    refuses c.args.out.now _ (no_delay (view_of c.args.self) c.args.pass c.if-pass-self.false (ap not (eq-eqb _ _ c.if-self-eq-STOPPED.true))) c.refuse-then-self-eq-STOPPED.ensures
+    refuses c.args.out.now _ (no_delay (view_of c.args.self.now) c.args.pass c.if-pass-self.false (ap not (eq-eqb _ _ c.if-self-eq-STOPPED.true))) (refl, refl, refl)
 
 pub write_asks-end-requires : goal.write_asks-end-requires
 unfolding view_of runs delay_ends
 write_asks-end-requires c =
-    let p = view_of c.args.self in
+    let p = view_of c.args.self.now in
     let on = ap not (ne_eqb _ _ c.if-self-eq-STOPPED.false) in (
       omega (arith, c.ring.ensures.length),
       subst (λ (rs : List Row). 0 + length (encode_all c.args.pass (asks is_silent 1 rs)) ≤ length c.args.out.now) (sym c.ring.ensures.rows)
@@ -43,7 +43,7 @@ write_asks-end-requires c =
 pub finish-requires : goal.finish-requires
 unfolding view_of runs delay_ends
 finish-requires c =
-    let s = c.args.self in
+    let s = c.args.self.now in
     let p = view_of s in
     let on = ap not (ne_eqb _ _ c.if-self-eq-STOPPED.false) in
     let full : length s.entries ≡ max_units = search (rules, c.well_formed) in
@@ -57,7 +57,7 @@ finish-requires c =
 pub returns : goal.returns
 unfolding view_of runs delay_ends
 returns c =
-    let s = c.args.self in
+    let s = c.args.self.now in
     let p = view_of s in
     let on = ap not (ne_eqb _ _ c.if-self-eq-STOPPED.false) in
     let full : length s.entries ≡ max_units = search (rules, c.well_formed) in

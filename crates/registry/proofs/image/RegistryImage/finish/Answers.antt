@@ -14,7 +14,7 @@ use Rattle.registry.proofs.image.RegistryImage.finish.Goals as goal
 pub close-closed-requires : goal.close-closed-requires
 unfolding view_of
 close-closed-requires c =
-    let s = c.args.self in
+    let s = c.args.self.now in
     let seen = c.outlook_of-seen.ensures in
     let rows = c.ring.ensures.rows in
     let o = seen.0 ∙ ap (any is_open) rows in
@@ -25,7 +25,7 @@ close-closed-requires c =
 pub returns : goal.returns
 unfolding view_of
 returns c =
-    let s = c.args.self in
+    let s = c.args.self.now in
     let seen = c.outlook_of-seen.ensures in
     let rows = c.ring.ensures.rows in
     let o = seen.0 ∙ ap (any is_open) rows in

@@ -26,14 +26,14 @@ use Rattle.registry.proofs.image.RegistryImage.ignore.Goals as goal
 
 pub all_counted-requires : goal.all_counted-requires
 all_counted-requires c =
-    let s : RegistryImage = c.args.self in
+    let s : RegistryImage = c.args.self.now in
     let full : length s.entries ≡ max_units = search (rules, c.well_formed) in
     omega (arith, inside s c.args.position.0 c.requires.0, ring_length s.units s.entries full c.unit_count-n.ensures, c.unit_count-n.ensures)
 
 pub tell_entries-at-requires : goal.tell_entries-at-requires
 unfolding view_of change_rows with_rows
 tell_entries-at-requires c =
-    let s : RegistryImage = c.args.self in
+    let s : RegistryImage = c.args.self.now in
     let x = c.args.position.0 in
     let full : length s.entries ≡ max_units = search (rules, c.well_formed) in
     let n = c.unit_count-n.ensures in
@@ -58,7 +58,7 @@ tell_entries-at-requires c =
 pub finish-requires : goal.finish-requires
 unfolding view_of change_rows with_rows
 finish-requires c =
-    let s : RegistryImage = c.args.self in
+    let s : RegistryImage = c.args.self.now in
     let x = c.args.position.0 in
     let full : length s.entries ≡ max_units = search (rules, c.well_formed) in
     let n = c.unit_count-n.ensures in
@@ -82,7 +82,7 @@ finish-requires c =
 pub returns : goal.returns
 unfolding view_of change_rows with_rows
 returns c =
-    let s : RegistryImage = c.args.self in
+    let s : RegistryImage = c.args.self.now in
     let x = c.args.position.0 in
     let full : length s.entries ≡ max_units = search (rules, c.well_formed) in
     let n = c.unit_count-n.ensures in

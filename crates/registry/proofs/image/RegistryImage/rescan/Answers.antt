@@ -30,7 +30,7 @@ shared_ref_as_front-tell_ring_change c = omega (arith, flat_count _ c.listing-li
 pub tell_ring_change-told-requires : goal.tell_ring_change-told-requires
 unfolding view_of runs rescan rescanned listed_pairs
 tell_ring_change-told-requires c =
-    let image : RegistryImage = c.args.self in
+    let image : RegistryImage = c.args.self.now in
     let l = c.listing-listed.result in
     let left : ◌≡◌ {A = Picture} (record { state = state_of image.state.0; pass = image.pass + 1; size = image.size; delay = false; rows = rows_of (c.args.nodes - 1) c.new_entries-self.result })
     (rescan c.args.nodes (view_of image)).picture =
@@ -56,7 +56,7 @@ tell_ring_change-told-requires c =
 pub finish-requires : goal.finish-requires
 unfolding view_of runs rescan rescanned listed_pairs
 finish-requires c =
-    let image : RegistryImage = c.args.self in
+    let image : RegistryImage = c.args.self.now in
     let l = c.listing-listed.result in
     let left : ◌≡◌ {A = Picture} (record { state = state_of image.state.0; pass = image.pass + 1; size = image.size; delay = false; rows = rows_of (c.args.nodes - 1) c.new_entries-self.result })
     (rescan c.args.nodes (view_of image)).picture =
@@ -79,7 +79,7 @@ finish-requires c =
 pub returns : goal.returns
 unfolding view_of runs rescan rescanned listed_pairs
 returns c =
-    let image : RegistryImage = c.args.self in
+    let image : RegistryImage = c.args.self.now in
     let l = c.listing-listed.result in
     let left : ◌≡◌ {A = Picture} (record { state = state_of image.state.0; pass = image.pass + 1; size = image.size; delay = false; rows = rows_of (c.args.nodes - 1) c.new_entries-self.result })
     (rescan c.args.nodes (view_of image)).picture =

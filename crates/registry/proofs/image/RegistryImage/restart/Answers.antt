@@ -22,21 +22,21 @@ use Rattle.registry.proofs.image.RegistryImage.restart.Goals as goal
 
 pub all_counted-requires : goal.all_counted-requires
 all_counted-requires c =
-    let s : RegistryImage = c.args.self in
+    let s : RegistryImage = c.args.self.now in
     let full : length s.entries ≡ max_units = search (rules, c.well_formed) in
     omega (arith, inside s c.args.position.0 c.requires.0, ring_length s.units s.entries full c.unit_count-n.ensures, c.unit_count-n.ensures)
 
 pub write_notice-at-requires : goal.write_notice-at-requires
 unfolding view_of
 write_notice-at-requires c =
-    let s : RegistryImage = c.args.self in
+    let s : RegistryImage = c.args.self.now in
     let rows_after : List Row = let args = c.args in map emptied (on_counted (counts_for (verdict_of args.verdict) args.address.0) (struck false args.address.0) (seat_at (view_of s).rows args.position.0)) in
     notok_room s.pass (add-one s.pass) c.args.out.now (first_room (view_of s) (NOTOK ∷ []) rows_after refl refl c.args.out.now c.requires.2)
 
 pub scan-requires : goal.scan-requires
 unfolding view_of with_rows
 scan-requires c =
-    let s : RegistryImage = c.args.self in
+    let s : RegistryImage = c.args.self.now in
     let x = c.args.position.0 in
     let full : length s.entries ≡ max_units = search (rules, c.well_formed) in
     let n = c.unit_count-n.ensures in
@@ -61,7 +61,7 @@ scan-requires c =
 pub returns : goal.returns
 unfolding view_of with_rows
 returns c =
-    let s : RegistryImage = c.args.self in
+    let s : RegistryImage = c.args.self.now in
     let x = c.args.position.0 in
     let full : length s.entries ≡ max_units = search (rules, c.well_formed) in
     let n = c.unit_count-n.ensures in

@@ -7,4 +7,4 @@ use Rattle.registry.proofs.image.RegistryImage.shut_down.Goals as goal
 pub returns : goal.returns
 unfolding view_of
 returns c =
-    shuts (view_of c.args.self) c.args.out.now c.stopped.ensures.0 refl refl (λ m. c.stopped.ensures.1)
+    shuts (view_of c.args.self.now) c.args.out.now c.stopped.ensures.0 refl refl (λ m. c.stopped.ensures.1)

@@ -103,10 +103,14 @@ pub fn new(before: Option<NodeRow>, after: Option<NodeRow>) -> Pairs
     seen_pairs(after).missing(&seen_pairs(before))
 }
 
-// How many lines the position has.
+// How many lines the position has. Most positions of a short list have no row on either side.
+#[tactic(auto, unfolding(diff_rows::specs::Gathering::seen_in, rules_diff::specs::Differences::lines_at))]
 pub fn count(before: Option<NodeRow>, after: Option<NodeRow>) -> usize
     ensures { (result ≡ length (lines_at 0 (seen_in before) (seen_in after))) × (result ≤ max_lines_each) }
 {
+    if let (None, None) = (before, after) {
+        return 0;
+    }
     let own = usize::from(head_kind(before, after).is_some());
     own + gone(before, after).len() + new(before, after).len()
 }

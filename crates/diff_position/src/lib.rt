@@ -113,6 +113,9 @@ pub fn write_position(
     requires { at + length (lines_bytes (lines_at position.0 (seen_in before) (seen_in after))) ≤ length out.old }
     ensures { Wrote out.old at (lines_bytes (lines_at position.0 (seen_in before) (seen_in after))) result out.new }
 {
+    if let (None, None) = (before, after) {
+        return at;
+    }
     let kind = diff_changes::head_kind(before, after);
     let address = diff_changes::seen_address(after);
     let gone = diff_changes::gone(before, after);

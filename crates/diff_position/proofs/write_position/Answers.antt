@@ -3,7 +3,7 @@ use Prim.Native.Nat.{◌+◌}
 use mathlib.Core.Path.{◌≡◌, sym}
 use native.Mathlib.Omega.{arith}
 use lib.ListN.{length}
-use Rattle.laws.specs.Buffers.{wrote_append, wrote_along}
+use Rattle.laws.specs.Buffers.{wrote_append, wrote_along, wrote_nothing}
 use Rattle.laws.specs.Lists.{collect}
 use Rattle.rules_diff.specs.Differences.{lines_at, lines_bytes}
 use Rattle.wire_pairs.specs.View.{pairs_of}
@@ -12,6 +12,12 @@ use Rattle.diff_changes.specs.Changes.{told}
 use Rattle.diff_position.specs.Lines.{head_line, pair_line}
 use Rattle.diff_position.proofs.Bytes.{found_parts, found_length}
 use Rattle.diff_position.proofs.write_position.Goals as goal
+
+pub returns-in-None-None : goal.returns-in-None-None
+unfolding lines_at seen_in lines_bytes collect
+returns-in-None-None c =
+    wrote_along (λ t. lines_bytes (lines_at c.args.position.0 (seen_in (sym c.in-None-None.is-0 t)) (seen_in (sym c.in-None-None.is-1 t))))
+    (wrote_nothing c.args.out.now c.args.at)
 
 pub write_head-head-requires : goal.write_head-head-requires
 write_head-head-requires c =

@@ -87,10 +87,11 @@ impl DecentralRegistry {
         requires { self.old.count < max_answers }
         ensures { (answers_of self.new ≡ answers_of self.old ++ known_in known ∷ []) × (self.new.count ≡ self.old.count + 1) }
     {
-        self.addresses[self.count] = known.address.0;
-        self.blocks[self.count] = known.pair.block;
-        self.numbers[self.count] = known.pair.number;
-        self.count += 1;
+        let at = self.count;
+        self.addresses[at] = known.address.0;
+        self.blocks[at] = known.pair.block;
+        self.numbers[at] = known.pair.number;
+        self.count = at + 1;
     }
 
     // The answers for other pairs than those that stand in these bytes.

@@ -1,6 +1,6 @@
 -- At every turn the listing with the pairs passed counted lists them.
 use Prim.Native.Nat.{ℕ, ◌+◌}
-use mathlib.Core.List.{List, [], ◌++◌, append-nil, map}
+use mathlib.Core.List.{List, ◌++◌, append-nil, map}
 use mathlib.Core.Path.{◌≡◌, ◌∙◌, ap, sym}
 use native.Mathlib.Omega.{arith}
 use Rattle.std.proofs.Common.{take_all}

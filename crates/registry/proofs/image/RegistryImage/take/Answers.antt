@@ -8,7 +8,6 @@ use Rattle.row_entry.specs.Marks.{Marked}
 use Rattle.std.proofs.lemmas.Result.{err_from_is_err_and}
 use native.Mathlib.Nat.{suc-ne-zero}
 use Rattle.ring_refusals.specs.Numbers.{refusal_of}
-use Rattle.numbers.specs.declared.Refusal.TheVariants as refusals
 use Rattle.registry.proofs.Doing.{refuses}
 use Rattle.registry.proofs.Places.{index, inside, seat_entry}
 use Rattle.registry.proofs.Recording.{Decoded, answered_at, fits_at, formed, late_step, own_step, recorded_at, recorded_err, silent_at, table_step}

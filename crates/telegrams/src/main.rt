@@ -20,12 +20,14 @@ use text_in::{Input, MAX_LINE};
 use text_numbers::Asked;
 use text_out::Output;
 
-// What stands on the bench: the payload, the join state, and what is joined.
+// What stands on the bench: the payload, the join state, what is joined, the bytes that a line names, and room for a telegram.
 #[derive(Drop)]
 struct Desk {
     payload: ArrayVec<u8, BENCH_PAYLOAD>,
     joining: Reassembly,
     buffer: [u8; MAX_PAYLOAD],
+    bytes: [u8; MAX_TELEGRAM],
+    room: [u8; BENCH_PAYLOAD],
 }
 
 // How many characters `join` and the blank behind it have.
@@ -75,21 +77,57 @@ fn message(output: &mut Output, msg_id: u32, bytes: &[u8]) {
     fields::message(output, bytes);
 }
 
-impl Desk {
-    // The payload from a line's bytes.
-    fn set_payload(&mut self, output: &mut Output, bytes: &[u8])
-        requires { length bytes.now ≤ MAX_TELEGRAM }
-    {
-        self.payload.clear();
-        self.payload.try_extend_from_slice(bytes).unwrap();
-        output.bytes(b"payload");
-        if !bytes.is_empty() {
-            output.byte(b' ');
-            output.hex_bytes(bytes);
-        }
-        output.line_end();
+// The payload from a line's bytes.
+fn set_payload(payload: &mut ArrayVec<u8, BENCH_PAYLOAD>, output: &mut Output, bytes: &[u8])
+    requires { length bytes.now ≤ MAX_TELEGRAM }
+{
+    payload.clear();
+    payload.try_extend_from_slice(bytes).unwrap();
+    output.bytes(b"payload");
+    if !bytes.is_empty() {
+        output.byte(b' ');
+        output.hex_bytes(bytes);
     }
+    output.line_end();
+}
 
+// One telegram of a payload, cut into `room`.
+fn telegram(
+    payload: &[u8],
+    output: &mut Output,
+    l: usize,
+    msg_id: u32,
+    number: usize,
+    room: &mut [u8],
+) -> Result<(), Refusal> {
+    let length = tel_cut::cut(l, msg_id, payload, number, room)?;
+    output.bytes(b"= telegram ");
+    fields::telegram(output, &room[..length.min(room.len())]);
+    output.line_end();
+    Ok(())
+}
+
+// Offers a telegram with this join buffer.
+fn join(
+    joining: &mut Reassembly,
+    output: &mut Output,
+    l: usize,
+    buffer: &mut [u8],
+    telegram: &[u8],
+) -> Result<(), Refusal> {
+    join_echo(output, l, buffer.len(), telegram);
+    match tel_join::join(joining, l, buffer, telegram)? {
+        None => output.line(b"= open"),
+        Some(whole) => message(
+            output,
+            whole.msg_id,
+            &buffer[..whole.length.min(buffer.len())],
+        ),
+    }
+    Ok(())
+}
+
+impl Desk {
     // The payload from a pattern.
     fn fill(&mut self, output: &mut Output, n: usize, seed: usize) {
         self.payload.clear();
@@ -112,24 +150,9 @@ impl Desk {
         Ok(())
     }
 
-    // One telegram of the payload, cut into `room`.
-    fn telegram(
-        &self,
-        output: &mut Output,
-        l: usize,
-        msg_id: u32,
-        number: usize,
-        room: &mut [u8],
-    ) -> Result<(), Refusal> {
-        let length = tel_cut::cut(l, msg_id, self.payload.as_slice(), number, room)?;
-        output.bytes(b"= telegram ");
-        fields::telegram(output, &room[..length.min(room.len())]);
-        output.line_end();
-        Ok(())
-    }
-
+    // One telegram of the payload, with so much room.
     fn cut(
-        &self,
+        &mut self,
         output: &mut Output,
         l: usize,
         msg_id: u32,
@@ -141,44 +164,28 @@ impl Desk {
             b"cut %d %w%w %d %d\n",
             &[l, high(msg_id), low(msg_id), number, lent],
         );
-        self.telegram(output, l, msg_id, number, &mut [0; BENCH_PAYLOAD][..lent])
+        let whole = &mut self.room[..];
+        let payload = self.payload.as_slice();
+        telegram(payload, output, l, msg_id, number, &mut whole[..lent])
     }
 
     // All telegrams of the payload.
-    fn cut_all(&self, output: &mut Output, l: usize, msg_id: u32) -> Result<(), Refusal> {
+    fn cut_all(&mut self, output: &mut Output, l: usize, msg_id: u32) -> Result<(), Refusal> {
         output.form(b"cutall %d %w%w\n", &[l, high(msg_id), low(msg_id)]);
         let telegrams = self.counted(output, l)?;
-        let mut room = [0; BENCH_PAYLOAD];
+        let payload = self.payload.as_slice();
         for number in 1..=telegrams {
-            self.telegram(output, l, msg_id, number, &mut room)?;
+            telegram(payload, output, l, msg_id, number, &mut self.room)?;
         }
         Ok(())
     }
 
-    // Offers a telegram with so much of the join buffer.
-    fn join(
-        &mut self,
-        output: &mut Output,
-        l: usize,
-        room: usize,
-        telegram: &[u8],
-    ) -> Result<(), Refusal> {
-        let lent = room.min(MAX_PAYLOAD);
-        join_echo(output, l, lent, telegram);
-        let buffer = &mut self.buffer[..];
-        match tel_join::join(&mut self.joining, l, &mut buffer[..lent], telegram)? {
-            None => output.line(b"= open"),
-            Some(whole) => message(output, whole.msg_id, &self.buffer[..whole.length.min(lent)]),
-        }
-        Ok(())
-    }
-
-    // A command, with the bytes that it names.
-    fn done(&mut self, output: &mut Output, command: Command, bytes: &[u8]) -> Result<(), Refusal>
-        requires { length bytes.now ≤ MAX_TELEGRAM }
+    // A command, of which so many bytes are named.
+    fn done(&mut self, output: &mut Output, command: Command, named: usize) -> Result<(), Refusal>
+        requires { named ≤ MAX_TELEGRAM }
     {
         match command {
-            Command::Payload(_) => self.set_payload(output, bytes),
+            Command::Payload(_) => set_payload(&mut self.payload, output, &self.bytes[..named]),
             Command::Fill { n, seed } => self.fill(output, n, seed),
             Command::Count(l) => self.count(output, l)?,
             Command::Cut {
@@ -192,7 +199,11 @@ impl Desk {
                 self.joining = Reassembly::fresh();
                 output.line(b"rejoin");
             }
-            Command::Join { l, room, n: _ } => self.join(output, l, room, bytes)?,
+            Command::Join { l, room, n: _ } => {
+                let buffer = &mut self.buffer[..];
+                let lent = &mut buffer[..room.min(MAX_PAYLOAD)];
+                join(&mut self.joining, output, l, lent, &self.bytes[..named])?;
+            }
         }
         Ok(())
     }
@@ -204,13 +215,14 @@ impl Bench for Desk {
             payload: ArrayVec::new(),
             joining: Reassembly::fresh(),
             buffer: [0; MAX_PAYLOAD],
+            bytes: [0; MAX_TELEGRAM],
+            room: [0; BENCH_PAYLOAD],
         }
     }
 
     // A telegram is offered where its normal form is no longer than a line.
     fn obey(&mut self, output: &mut Output, line: &[u8]) -> Result<(), Reason> {
-        let mut bytes = [0u8; MAX_TELEGRAM];
-        let command = command::parse(line, &mut bytes)?;
+        let command = command::parse(line, &mut self.bytes)?;
         let named = match command {
             Command::Payload(n) => n.min(MAX_TELEGRAM),
             Command::Join { l, room, n } => {
@@ -222,7 +234,7 @@ impl Bench for Desk {
             }
             _ => 0,
         };
-        if let Err(why) = self.done(output, command, &bytes[..named]) {
+        if let Err(why) = self.done(output, command, named) {
             refusal(output, Asked::Telegram, why.number());
         }
         Ok(())

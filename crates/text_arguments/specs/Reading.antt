@@ -4,7 +4,7 @@ use Rattle.text_words.specs.Text.{is_blank, blanks, glyphs, all_digits, number, 
 use Rattle.text_words.specs.declared.numbers.NotDecimal.{NotDecimal}
 use Rattle.text_words.specs.declared.numbers.NotDecimal.TheVariants.{NoNumber, TooLarge}
 use Rattle.text_arguments.specs.declared.Reason.{Reason}
-use Rattle.text_arguments.specs.declared.Reason.TheVariants.{WordMissing, NoDecimal, DoesNotFit, NoHex, OddHex, WrongHex, WordTooMany}
+use Rattle.text_arguments.specs.declared.Reason.TheVariants.{UnknownWord, WordMissing, NoDecimal, DoesNotFit, NoHex, OddHex, WrongHex, WordTooMany, TooLong, NoPair, TooMany, Unnamed}
 
 -- the limit of a number that has no other
 abbrev pub any_number : ℕ
@@ -45,6 +45,29 @@ end_of line at = start_of line at + glyphs (drop (start_of line at) line)
 -- a word is missing where the line ends
 unfoldable pub needed : {A : Type 0} → List ℕ → ℕ → Result A Reason → Result A Reason
 needed line at a = cond (ltb (start_of line at) (length line)) a (Err WordMissing)
+
+-- the reason of a number: the one beside it in the table, and of a number without a row `Unnamed`
+abbrev pub reasons : List (ℕ × Reason)
+reasons =
+    (1, UnknownWord)
+    ∷ (2, WordMissing)
+    ∷ (3, NoDecimal)
+    ∷ (4, DoesNotFit)
+    ∷ (5, NoHex)
+    ∷ (6, OddHex)
+    ∷ (7, WrongHex)
+    ∷ (8, WordTooMany)
+    ∷ (9, TooLong)
+    ∷ (10, NoPair)
+    ∷ (11, TooMany)
+    ∷ []
+
+abbrev pub reason_beside : List (ℕ × Reason) → ℕ → Reason
+reason_beside [] n = Unnamed n
+reason_beside (row ∷ rows) n = cond (eqb n row.0) row.1 (reason_beside rows n)
+
+abbrev pub numbered : ℕ → Reason
+numbered n = reason_beside reasons n
 
 -- the next word as a decimal number
 abbrev pub reason_of : NotDecimal → Reason

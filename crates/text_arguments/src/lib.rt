@@ -5,12 +5,12 @@ ghost use Rattle.std.specs.Prelude.{◌≡◌, ◌+◌, ◌^◌, ◌<◌, ◌≤
 ghost use Rattle.std.proofs.lemmas.List.Edits.{sets};
 ghost use Rattle.laws.specs.Buffers.{Wrote};
 ghost use Rattle.text_words.specs.Text.{bytes_of};
-ghost use Rattle.text_arguments.specs.Reading.{any_number, reason_of, value_of, place_of, start_of, word_of, end_of, decimal_at, hex_at, group_reason, bytes_at, bytes_stored, end_at};
+ghost use Rattle.text_arguments.specs.Reading.{any_number, reason_of, numbered, value_of, place_of, start_of, word_of, end_of, decimal_at, hex_at, group_reason, bytes_at, bytes_stored, end_at};
 
 use text_words::numbers::NotDecimal;
 use text_words::{numbers, words};
 
-// Why a line is not understood.
+// Why a line is not understood; `Unnamed` is a number that is no reason's.
 #[derive(Clone, Copy, PartialEq, Eq, Debug)]
 pub enum Reason {
     UnknownWord,
@@ -24,6 +24,51 @@ pub enum Reason {
     TooLong,
     NoPair,
     TooMany,
+    Unnamed(u8),
+}
+
+// The numbers of the reasons.
+const UNKNOWN_WORD: u8 = 1;
+
+const WORD_MISSING: u8 = 2;
+
+const NO_DECIMAL: u8 = 3;
+
+const DOES_NOT_FIT: u8 = 4;
+
+const NO_HEX: u8 = 5;
+
+const ODD_HEX: u8 = 6;
+
+const WRONG_HEX: u8 = 7;
+
+const WORD_TOO_MANY: u8 = 8;
+
+const TOO_LONG: u8 = 9;
+
+const NO_PAIR: u8 = 10;
+
+const TOO_MANY: u8 = 11;
+
+impl From<u8> for Reason {
+    ghost from_gives = { λ number reason. reason ≡ numbered number };
+
+    fn from(number: u8) -> Reason {
+        match number {
+            UNKNOWN_WORD => Reason::UnknownWord,
+            WORD_MISSING => Reason::WordMissing,
+            NO_DECIMAL => Reason::NoDecimal,
+            DOES_NOT_FIT => Reason::DoesNotFit,
+            NO_HEX => Reason::NoHex,
+            ODD_HEX => Reason::OddHex,
+            WRONG_HEX => Reason::WrongHex,
+            WORD_TOO_MANY => Reason::WordTooMany,
+            TOO_LONG => Reason::TooLong,
+            NO_PAIR => Reason::NoPair,
+            TOO_MANY => Reason::TooMany,
+            _ => Reason::Unnamed(number),
+        }
+    }
 }
 
 impl From<NotDecimal> for Reason {

@@ -15,7 +15,7 @@ pub const MAX_LINE: usize = 16384;
 
 // What is read and not used yet, the bytes of the chunk from `from` to `to`, and where more comes from. The chunk is fixed memory, and no
 // Vec: the programs take none from the heap. `from` and `to` stand beside it, and it is no ArrayVec: `NextLine` speaks of any two places.
-#[derive(Drop)]
+#[derive(Clone, Copy)]
 pub struct Input {
     pub stdin: Stdin,
     pub chunk: [u8; CHUNK],

@@ -7,7 +7,7 @@ use Rattle.laws.specs.Lists.{any}
 use Rattle.text_words.specs.Text.{same_word}
 use Rattle.text_out.specs.Spelling.{filled_from, value_of, decimal_of, width_of, places_by}
 use Rattle.text_arguments.specs.declared.Reason.{Reason}
-use Rattle.text_arguments.specs.declared.Reason.TheVariants.{UnknownWord, WordMissing, NoDecimal, DoesNotFit, NoHex, OddHex, WrongHex, WordTooMany, TooLong, NoPair, TooMany}
+use Rattle.text_arguments.specs.declared.Reason.TheVariants.{UnknownWord, WordMissing, NoDecimal, DoesNotFit, NoHex, OddHex, WrongHex, WordTooMany, TooLong, NoPair, TooMany, Unnamed}
 use Rattle.text_numbers.specs.declared.Asked.{Asked}
 use Rattle.text_numbers.specs.declared.Asked.TheVariants.{Record, Picture, Telegram, LookUp, Order, Unit, Compare}
 use Rattle.text_numbers.specs.Wording.{Table, no_words, table_of, why_of}
@@ -26,16 +26,18 @@ given_back Order = refl
 given_back Unit = refl
 given_back Compare = refl
 
-reason : (r : Reason) → same_word (why_of r) no_words ≡ false
+-- a reason has them only where it is a number that is no reason's
+reason : (r : Reason) → ((n : ℕ) → r ≡ Unnamed n → ⊥) → same_word (why_of r) no_words ≡ false
 unfolding filled_from value_of decimal_of width_of places_by
-reason UnknownWord = refl
-reason WordMissing = refl
-reason NoDecimal = refl
-reason DoesNotFit = refl
-reason NoHex = refl
-reason OddHex = refl
-reason WrongHex = refl
-reason WordTooMany = refl
-reason TooLong = refl
-reason NoPair = refl
-reason TooMany = refl
+reason UnknownWord named = refl
+reason WordMissing named = refl
+reason NoDecimal named = refl
+reason DoesNotFit named = refl
+reason NoHex named = refl
+reason OddHex named = refl
+reason WrongHex named = refl
+reason WordTooMany named = refl
+reason TooLong named = refl
+reason NoPair named = refl
+reason TooMany named = refl
+reason (Unnamed n) named = absurd (named n refl)

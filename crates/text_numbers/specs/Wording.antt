@@ -2,7 +2,7 @@
 use Rattle.std.specs.Prelude.{ℕ, cond, List, [], ◌∷◌, eqb}
 use Rattle.rules.specs.House.{min_size, max_size, max_units, max_pairs, min_room, min_answer_room, max_payload}
 use Rattle.text_arguments.specs.declared.Reason.{Reason}
-use Rattle.text_arguments.specs.declared.Reason.TheVariants.{UnknownWord, WordMissing, NoDecimal, DoesNotFit, NoHex, OddHex, WrongHex, WordTooMany, TooLong, NoPair, TooMany}
+use Rattle.text_arguments.specs.declared.Reason.TheVariants.{UnknownWord, WordMissing, NoDecimal, DoesNotFit, NoHex, OddHex, WrongHex, WordTooMany, TooLong, NoPair, TooMany, Unnamed}
 use Rattle.text_in.specs.Lines.{max_line}
 use Rattle.text_out.specs.Spelling.{filled}
 use Rattle.text_out.specs.Texts.{codes}
@@ -101,3 +101,4 @@ why_of WordTooMany = codes "a word too many"
 why_of TooLong = filled (codes "line of more than %d bytes") (max_line ∷ [])
 why_of NoPair = codes "not a pair"
 why_of TooMany = codes "too many"
+why_of (Unnamed n) = no_words

@@ -159,5 +159,6 @@ pub fn why(output: &mut Output, reason: Reason)
         Reason::TooLong => output.form(b"line of more than %d bytes\n", &[MAX_LINE]),
         Reason::NoPair => output.line(b"not a pair"),
         Reason::TooMany => output.line(b"too many"),
+        Reason::Unnamed(_) => no_words(output),
     }
 }

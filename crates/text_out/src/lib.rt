@@ -16,7 +16,7 @@ pub const SPACE: usize = 65536;
 
 // What waits to be written, at the start of its buffer, and where it goes; whether a write failed. The buffer is fixed memory, and no Vec:
 // the programs take none from the heap. `waiting` stands beside it, and it is no ArrayVec: `Puts` speaks of any count.
-#[derive(Drop)]
+#[derive(Clone, Copy)]
 pub struct Output {
     pub stdout: Stdout,
     pub text: [u8; SPACE],

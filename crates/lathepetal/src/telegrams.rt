@@ -57,10 +57,10 @@ pub extern "C" fn lathepetal_cut(
 ) -> CutOutcome
     ensures { Cuts (cut l msg_id payload.now number (length buffer.old)) buffer.old result buffer.new }
 {
-    let answer = tel_cut::cut(l, msg_id, payload, number, buffer);
+    let telegram = tel_cut::cut(l, msg_id, payload, number, buffer);
     CutOutcome {
-        number: number_in(answer),
-        length: answer.unwrap_or(0),
+        number: number_in(telegram),
+        length: telegram.unwrap_or(0),
     }
 }
 

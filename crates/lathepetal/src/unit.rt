@@ -44,12 +44,14 @@ pub extern "C" fn lathepetal_unit_learn(
     ensures { (slave_of result ≡ learn (pair_of block number) (answer_of answer) (slave_of unit)) × (Counted unit → Counted result)
         × ((answer.number ≡ 0 → ⊥) → result ≡ unit) }
 {
-    if answer.number != DONE {
-        return unit;
-    }
     let place = Place {
         position: NodePosition(answer.position),
         address: LogicalNodeAddress(answer.address),
     };
-    unit.learn(Pair { block, number }, Ok(place))
+    let looked_up = if answer.number == DONE {
+        Ok(place)
+    } else {
+        Err(answer.number)
+    };
+    unit.learn(Pair { block, number }, looked_up)
 }

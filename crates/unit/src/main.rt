@@ -6,7 +6,7 @@ mod help;
 mod show;
 
 use command::{Command, MAX_ORDER, MAX_ROOM};
-use numbers::DONE;
+use numbers::{DONE, Refusal};
 use ring_lookup::Place;
 use sizes::MIN_ANSWER_ROOM;
 use std::rt::Env;
@@ -79,11 +79,11 @@ fn found(unit: &mut NetworkSlave, output: &mut Output, pair: Pair, address: u16)
             usize::from(address),
         ],
     );
-    let place = Place {
+    let answer: Result<Place, Refusal> = Ok(Place {
         position: NodePosition(0),
         address: LogicalNodeAddress(address),
-    };
-    *unit = unit.learn(pair, Ok(place));
+    });
+    *unit = unit.learn(pair, answer);
 }
 
 impl Bench for UnitBench {

@@ -7,6 +7,7 @@ use Rattle.rules.specs.Listing.{Lookup, found, not_found}
 use Rattle.rules_unit.specs.Slave.{Slave, not_made}
 use Rattle.numbers.specs.declared.Refusal.{Refusal}
 use Rattle.numbers.specs.Numbers.{number_of}
+use Rattle.ring_lookup.specs.declared.Place.{Place}
 use Rattle.wire_pairs.specs.declared.Pairs.{Pairs}
 use Rattle.wire_pairs.specs.View.{pairs_of}
 use Rattle.unit_slave.specs.declared.NetworkSlave.{NetworkSlave}
@@ -46,3 +47,8 @@ read_as (Err r) u = record { number = number_of r; length = 0; unit = u }
 unfoldable pub is_refusal : Lookup → Bool
 is_refusal (found x a) = false
 is_refusal (not_found n) = true
+
+-- A look-up of the rules that an answer in code stands for: the pair is listed at this place, or refused, by a number that the error tells.
+abbrev pub StandsFor : {E : Type 0} → Result Place E → Lookup → Type 0
+StandsFor (Ok p) l = l ≡ found p.position.0 p.address.0
+StandsFor (Err e) l = is_refusal l ≡ true

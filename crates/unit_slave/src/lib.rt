@@ -7,12 +7,12 @@ ghost use Rattle.laws.specs.Buffers.{Wrote};
 ghost use Rattle.rules.specs.House.{max_pairs, min_answer_room};
 ghost use Rattle.rules.specs.Event.{read_pairs};
 ghost use Rattle.rules.specs.Run.{sent_with};
+ghost use Rattle.rules.specs.Listing.{Lookup};
 ghost use Rattle.rules_unit.specs.Slave.{besides, renumbered, with_known, answer_of, on_order, make_number, make, read, learn};
 ghost use Rattle.wire_pairs.specs.View.{pair_in, pairs_of};
 ghost use Rattle.wire_order_reading.specs.View.{order_of};
-ghost use Rattle.ring_lookup.specs.View.{lookup_of};
 ghost use Rattle.unit_slave.specs.View.{slave_of, Counted, Reads};
-ghost use Rattle.unit_slave.specs.Steps.{unread, emptied_on, on_pass, with_pairs, PairsRead, Becomes, read_as, is_refusal};
+ghost use Rattle.unit_slave.specs.Steps.{unread, emptied_on, on_pass, with_pairs, PairsRead, Becomes, read_as, is_refusal, StandsFor};
 
 use numbers::{DONE, Refusal};
 use ring_lookup::Place;
@@ -225,11 +225,11 @@ impl NetworkSlave {
         }
     }
 
-    // The answer of a look-up for this pair is kept; a refusal hands back the very unit.
-    #[tactic(auto, unfolding(crate::specs::View::slave_of, crate::specs::Steps::is_refusal, rules_unit::specs::Slave::learn, rules_unit::specs::Slave::with_known, unit_answers::specs::View::known_in))]
-    pub fn learn(self, pair: Pair, answer: Result<Place, Refusal>) -> NetworkSlave
-        ensures { (slave_of result ≡ learn (pair_in pair) (lookup_of answer) (slave_of self)) × (Counted self → Counted result)
-            × (is_refusal (lookup_of answer) ≡ true → result ≡ self) }
+    // The answer of a look-up for this pair is kept; a refusal, whatever its error is, hands back the very unit.
+    pub fn learn<E: Drop>(self, pair: Pair, answer: Result<Place, E>) -> NetworkSlave
+        ensures learned { (l : Lookup) → StandsFor answer l → slave_of result ≡ learn (pair_in pair) l (slave_of self) }
+        ensures refused { (l : Lookup) → StandsFor answer l → is_refusal l ≡ true → result ≡ self }
+        ensures counts { Counted self → Counted result }
     {
         match answer {
             Ok(place) => NetworkSlave {

@@ -35,7 +35,7 @@
  *   LATHEPETAL_DIFFERENCES_ROOM bytes of room no comparison is refused 21.
  *
  * The box keeps nothing between calls: no globals, no allocation, no locks. Threads may call at the same time, each with its own picture,
- * state and buffers. Stack, with the copies that a call passes and returns: lathepetal_record up to 68 KiB, lathepetal_listing and
+ * state and buffers. Stack, with the copies that a call passes and returns: lathepetal_record up to 32 KiB, lathepetal_listing and
  * lathepetal_compare 24 KiB, lathepetal_listed_rows 16 KiB, the others 8 KiB. */
 #ifndef LATHEPETAL_H
 #define LATHEPETAL_H

@@ -38,7 +38,7 @@ pub returns-in_err-pass_on : goal.returns-in_err-pass_on
 returns-in_err-pass_on c =
     let a = c.args in
     let w = c.loop-number in
-    let o = owed_open a.l a.msg_id a.payload.now a.buffer.now c.in_ok-count.count w.number (joining_of w.state) w.buffer w.invariant.1 c.in_err-pass_on.ensures c.loop-number-test.true in
+    let o = owed_open a.l a.msg_id a.payload.now a.buffer.now c.in_ok-count.count w.number (joining_of w.state) w.buffer w.invariant.1 c.in_err-pass_on.ensures (omega arith) in
     absurd cc
 
 pub loop-number-preserved : goal.loop-number-preserved
@@ -46,7 +46,7 @@ loop-number-preserved c =
     let a = c.args in
     let w = c.loop-number in (
       c.pass_on.auto.buffer ∙ w.invariant.0,
-      owed_on a.l a.msg_id a.payload.now a.buffer.now c.in_ok-count.count w.number (joining_of w.state) w.buffer w.invariant.1 c.pass_on.ensures c.loop-number-test.true,
+      owed_on a.l a.msg_id a.payload.now a.buffer.now c.in_ok-count.count w.number (joining_of w.state) w.buffer w.invariant.1 c.pass_on.ensures (omega arith),
     )
 
 pub pass_on-requires-2 : goal.pass_on-requires-2

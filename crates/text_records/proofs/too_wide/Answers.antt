@@ -24,7 +24,7 @@ loop-i-preserved c =
     let i = c.loop-i.i in
     let blank = c.has_gap.ensures ∙ ap (λ (k : ℕ). gap_of c.args.layout k i) c.kind_of-kind.ensures in
     let more = c.from.ensures in
-    (omega (arith, more, one_at_most c.has_gap.result), width_on _ _ _ blank c.loop-i-test.true c.loop-i.width more c.loop-i.invariant.1)
+    (omega (arith, more, one_at_most c.has_gap.result), omega (arith, width_on _ _ _ blank c.loop-i-test.true c.loop-i.width more c.loop-i.invariant.1))
 
 pub returns : goal.returns
 returns c =

@@ -56,7 +56,7 @@ fn write_part(msg_id: u32, tel_id: TelId, counter: u8, part: &[u8], buffer: &mut
 {
     tel_head::write_head(buffer, msg_id, tel_id.number(), (1 + part.len()) as u32);
     buffer[COUNTER] = counter;
-    tel_head::store(buffer, COUNTER + 1, part);
+    tel_head::store_words(buffer, COUNTER + 1, part);
 }
 
 // One of several telegrams, or 12 or 13.

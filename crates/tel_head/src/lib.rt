@@ -73,6 +73,25 @@ pub fn store(buffer: &mut [u8], at: usize, part: &[u8])
     buffer[at..at + part.len()].copy_from_slice(part);
 }
 
+// So many bytes move at once.
+const WORD: usize = 8;
+
+// The same for a part of a telegram. One of up to two words, as at the least L, goes as its first word and its last one, which may overlap:
+// a copy of bytes whose number is not known is a call.
+pub fn store_words(buffer: &mut [u8], at: usize, part: &[u8])
+    requires { at + length part.now ≤ length buffer.old }
+    ensures { buffer.new ≡ sets buffer.old at part.now }
+{
+    let n = part.len();
+    if WORD <= n && n <= 2 * WORD {
+        let last = n - WORD;
+        store(buffer, at, &part[..WORD]);
+        store(buffer, at + last, &part[last..]);
+    } else {
+        store(buffer, at, part);
+    }
+}
+
 // TelID and the high bits of TelLen in one byte.
 fn pack(tel_id: u32, tel_len: u32) -> u8
     requires { (tel_id < 16) × (tel_len < 4096) }

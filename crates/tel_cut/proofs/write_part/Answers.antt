@@ -5,4 +5,4 @@ use Rattle.tel_cut.proofs.write_part.Goals as goal
 pub returns : goal.returns
 returns c =
     let a = c.args in
-    stored_part a.msg_id a.counter a.part.now a.buffer.now _ _ c.number.ensures.0 c.write_head.ensures c.store.ensures
+    stored_part a.msg_id a.counter a.part.now a.buffer.now _ _ c.number.ensures.0 c.write_head.ensures c.store_words.ensures
